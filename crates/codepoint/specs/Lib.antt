@@ -1,0 +1,3 @@
+pub mod Classes
+pub mod Starts
+pub mod Utf8
