@@ -1,17 +1,18 @@
 -- Which row of the table decodes bytes, by the first of them.
-use mathlib.Core.Path.{_≡_, refl, sym, ap, _∙_}
-use mathlib.Core.Bool.{cond}
+use mathlib.Core.Path.{_≡_, refl, sym, ap, subst, _∙_}
+use mathlib.Core.Bool.{cond, _&&_}
 use mathlib.Core.List.{List, [], _∷_}
 use Prim.Native.Nat.{ℕ, _+_, _≤_, _<_}
 use native.Mathlib.Omega.{arith}
 use lib.Dec.{leb}
 use lib.ListN.{length, getD, take, drop}
 use lib.Seq.{take-all}
+use Rattle.std.proofs.shelf.Tests.{cond-both}
 use Rattle.std.proofs.shelf.Ways.{tells}
 use Rattle.codepoint.specs.declared.utf8.Decoded.{Decoded}
 use Rattle.codepoint.specs.declared.utf8.Decoded.the-variants.{Empty, Point, IllFormed}
 use Rattle.codepoint.specs.Classes.{within}
-use Rattle.codepoint.specs.Utf8.{decoded, twoBytes, threeBytes, fourBytes}
+use Rattle.codepoint.specs.Utf8.{decoded, isSecond, isTrailing, twoBytes, threeBytes, fourBytes}
 
 -- the choice of `decoded`, with its rows left open
 module _ {D : Type 0} (a : ℕ) (one two three four none : D) where
@@ -54,7 +55,35 @@ module _ (a : ℕ) (r : List ℕ) where
   unfolding decoded
   decodes-none h i j k = first-none a _ _ _ _ _ h i j k
 
--- the same of a slice: its first byte, and what is left of it
+-- where there is a byte, something is decoded or ill-formed
+abbrev Filled : Decoded → Type 0
+Filled Empty = ⊥
+Filled (Point c n) = Unit {0}
+Filled IllFormed = Unit {0}
+
+filled-two : (a : ℕ) (r : List ℕ) → Filled (twoBytes a r)
+filled-two a [] = tt
+filled-two a (b ∷ r) = cond-both (isTrailing b) _ _ Filled (λ _. tt) (λ _. tt)
+
+filled-three : (a : ℕ) (r : List ℕ) → Filled (threeBytes a r)
+filled-three a [] = tt
+filled-three a (b ∷ []) = tt
+filled-three a (b ∷ c ∷ r) = cond-both (isSecond a b && isTrailing c) _ _ Filled (λ _. tt) (λ _. tt)
+
+filled-four : (a : ℕ) (r : List ℕ) → Filled (fourBytes a r)
+filled-four a [] = tt
+filled-four a (b ∷ []) = tt
+filled-four a (b ∷ c ∷ []) = tt
+filled-four a (b ∷ c ∷ d ∷ r) = cond-both (isSecond a b && (isTrailing c && isTrailing d)) _ _ Filled (λ _. tt) (λ _. tt)
+
+pub decoded-is-not-empty : (a : ℕ) (r : List ℕ) → decoded (a ∷ r) ≡ Empty → ⊥
+unfolding decoded
+decoded-is-not-empty a r e = subst Filled e
+    (cond-both (leb a 0x7f) _ _ Filled (λ _. tt) (λ _.
+    cond-both (within 0xc2 0xdf a) _ _ Filled (λ _. filled-two a r) (λ _.
+    cond-both (within 0xe0 0xef a) _ _ Filled (λ _. filled-three a r) (λ _. cond-both (within 0xf0 0xf4 a) _ _ Filled (λ _. filled-four a r) (λ _. tt)))))
+
+-- which row decodes a slice, by its first byte and what is left of it
 pub slice-empty : (xs : List ℕ) → length xs < 1 → decoded xs ≡ Empty
 unfolding decoded
 slice-empty [] l = refl

@@ -1,0 +1,5 @@
+pub mod Faults
+pub mod Preprocess
+pub mod Sources
+pub mod Within
+pub mod Sinks

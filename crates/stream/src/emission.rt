@@ -1,0 +1,42 @@
+//! Bytes given to a sink one after another, up to the first that it refuses.
+ghost use Rattle.codepoint.specs.Utf8.{codePointsOf, utf8};
+ghost use Rattle.stream.specs.Sinks.{Copies, Emits, Outcome};
+use crate::fault::Fault;
+use crate::sink::Sink;
+use crate::source::Source;
+use crate::source::Step;
+use codepoint::utf8::encode;
+
+/// Gives the bytes to the sink, and stops at the first refused one.
+pub fn emit<S: Sink>(sink: &mut S, bytes: &[u8]) -> Result<(), Fault>
+    ensures steps { λ r. ⌜ Emits held takes (now (sink .entry)) (now (bytes .entry)) r (now (sink .exit)) ⌝ }
+    ensures outcome { λ r. ⌜ Outcome held takes (now (sink .entry)) (now (bytes .entry)) r (now (sink .exit)) ⌝ }
+{
+    for byte in bytes {
+        sink.take(*byte)?;
+    }
+    Ok(())
+}
+
+/// Gives a code point's UTF-8 bytes to the sink, and stops at the first refused one.
+pub fn emit_code_point<S: Sink>(sink: &mut S, c: u32) -> Result<(), Fault>
+    ensures steps { λ r. ⌜ Emits held takes (now (sink .entry)) (utf8 c) r (now (sink .exit)) ⌝ }
+    ensures outcome { λ r. ⌜ Outcome held takes (now (sink .entry)) (utf8 c) r (now (sink .exit)) ⌝ }
+{
+    let encoded = encode(c);
+    emit(sink, encoded.as_slice())
+}
+
+/// Gives all code points of a source to a sink, in UTF-8, and answers the end's place. Stops at the first refused
+/// byte, or at the source's fault.
+pub fn copy<P: Source, S: Sink>(source: &mut P, sink: &mut S) -> Result<usize, Fault>
+    ensures copies { λ r. ⌜ Copies (S·Sink .held) (S·Sink .takes) (now (sink .entry)) (codePointsOf (P·Source .ahead (now (source .entry)))) (P·Source .ending (now (source .entry))) r (now (sink .exit)) ⌝ }
+{
+    loop {
+        let step = source.next()?;
+        match step {
+            Step::Point((c, _)) => emit_code_point(sink, c)?,
+            Step::End(place) => return Ok(place),
+        }
+    }
+}
