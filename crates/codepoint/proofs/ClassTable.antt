@@ -1,6 +1,6 @@
 -- Each class is told by the class number: below 128 by one computed comparison of two tables, from 128 on by the rule.
 use mathlib.Core.Path.{_≡_, refl, sym, ap, _∙_}
-use mathlib.Core.Bool.{Bool, false, _||_}
+use mathlib.Core.Bool.{Bool, false}
 use mathlib.Core.List.{map}
 use mathlib.Core.Logic.{⊎-elim}
 use Prim.Native.Nat.{ℕ, _<_, _≤_}
@@ -11,7 +11,7 @@ use Rattle.std.proofs.shelf.Counted.{getD-map-counting}
 use Rattle.std.proofs.shelf.Tests.{cases-lt, cond-true, le-leb}
 use Rattle.std.proofs.shelf.Ways.{tells}
 use Rattle.std.specs.Iters.{counting}
-use Rattle.codepoint.specs.Classes.{classNumber, isDigit, isHexDigit, isIdent, isIdentStart, isLetter, isNewline, isNonPrintable, isWhitespace, within}
+use Rattle.codepoint.specs.Classes.{ClassNumber, classNumber, isDigit, isHexDigit, isIdent, isIdentStart, isLetter, isNewline, isNonPrintable, isWhitespace, within}
 
 -- past ASCII there is one class
 pub beyond-ascii : (c : ℕ) → 128 ≤ c → classNumber c ≡ 7
@@ -30,34 +30,48 @@ module _ (test byNumber : ℕ → Bool)
       (λ h. beyond c h ∙ ap byNumber (sym (beyond-ascii c h)))
       (cases-lt c 128)
 
-pub newline-by-class : (c : ℕ) → isNewline c ≡ eqb (classNumber c) 1
+newline-by-class : (c : ℕ) → isNewline c ≡ eqb (classNumber c) 1
 unfolding classNumber isNewline isNonPrintable
 newline-by-class = told-by-class isNewline (λ k. eqb k 1) refl (λ c h. grind (arith, tells))
 
-pub whitespace-by-class : (c : ℕ) → isWhitespace c ≡ (eqb (classNumber c) 1 || eqb (classNumber c) 2)
+whitespace-by-class : (c : ℕ) → isWhitespace c ≡ within 1 2 (classNumber c)
 unfolding classNumber isWhitespace isNonPrintable
-whitespace-by-class = told-by-class isWhitespace (λ k. eqb k 1 || eqb k 2) refl (λ c h. grind (arith, tells))
+whitespace-by-class = told-by-class isWhitespace (within 1 2) refl (λ c h. grind (arith, tells))
 
-pub digit-by-class : (c : ℕ) → isDigit c ≡ eqb (classNumber c) 4
+digit-by-class : (c : ℕ) → isDigit c ≡ eqb (classNumber c) 4
 unfolding classNumber isDigit isNonPrintable
 digit-by-class = told-by-class isDigit (λ k. eqb k 4) refl (λ c h. grind (arith, tells))
 
-pub hex-digit-by-class : (c : ℕ) → isHexDigit c ≡ (eqb (classNumber c) 4 || eqb (classNumber c) 5)
+hex-digit-by-class : (c : ℕ) → isHexDigit c ≡ within 4 5 (classNumber c)
 unfolding classNumber isHexDigit isNonPrintable
-hex-digit-by-class = told-by-class isHexDigit (λ k. eqb k 4 || eqb k 5) refl (λ c h. grind (arith, tells))
+hex-digit-by-class = told-by-class isHexDigit (within 4 5) refl (λ c h. grind (arith, tells))
 
-pub letter-by-class : (c : ℕ) → isLetter c ≡ (eqb (classNumber c) 5 || eqb (classNumber c) 6)
+letter-by-class : (c : ℕ) → isLetter c ≡ within 5 6 (classNumber c)
 unfolding classNumber isLetter isNonPrintable
-letter-by-class = told-by-class isLetter (λ k. eqb k 5 || eqb k 6) refl (λ c h. grind (arith, tells))
+letter-by-class = told-by-class isLetter (within 5 6) refl (λ c h. grind (arith, tells))
 
-pub ident-start-by-class : (c : ℕ) → isIdentStart c ≡ within 5 7 (classNumber c)
+ident-start-by-class : (c : ℕ) → isIdentStart c ≡ within 5 7 (classNumber c)
 unfolding classNumber isIdentStart isLetter isNonPrintable
 ident-start-by-class = told-by-class isIdentStart (within 5 7) refl (λ c h. grind (arith, tells))
 
-pub ident-by-class : (c : ℕ) → isIdent c ≡ within 3 7 (classNumber c)
+ident-by-class : (c : ℕ) → isIdent c ≡ within 3 7 (classNumber c)
 unfolding classNumber isIdent isIdentStart isLetter isDigit isNonPrintable
 ident-by-class = told-by-class isIdent (within 3 7) refl (λ c h. grind (arith, tells))
 
-pub non-printable-by-class : (c : ℕ) → isNonPrintable c ≡ eqb (classNumber c) 8
+non-printable-by-class : (c : ℕ) → isNonPrintable c ≡ eqb (classNumber c) 8
 unfolding classNumber isNonPrintable
 non-printable-by-class = told-by-class isNonPrintable (λ k. eqb k 8) refl (λ c h. grind (arith, tells))
+
+-- the class number tells them all
+pub tells-each-class : (c r : ℕ) → r ≡ classNumber c → ClassNumber c r
+tells-each-class c r e = record {
+  number = e;
+  newline = newline-by-class c ∙ ap (λ k. eqb k 1) (sym e);
+  whitespace = whitespace-by-class c ∙ ap (within 1 2) (sym e);
+  digit = digit-by-class c ∙ ap (λ k. eqb k 4) (sym e);
+  hex-digit = hex-digit-by-class c ∙ ap (within 4 5) (sym e);
+  letter = letter-by-class c ∙ ap (within 5 6) (sym e);
+  ident-start = ident-start-by-class c ∙ ap (within 5 7) (sym e);
+  ident = ident-by-class c ∙ ap (within 3 7) (sym e);
+  non-printable = non-printable-by-class c ∙ ap (λ k. eqb k 8) (sym e);
+}

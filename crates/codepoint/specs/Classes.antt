@@ -1,4 +1,5 @@
 -- The classes of code points, by the standard's names, and the one number that stands for all classes of a code point.
+use mathlib.Core.Path.{_≡_}
 use mathlib.Core.Bool.{Bool, cond, not, _&&_, _||_}
 use Prim.Native.Nat.{ℕ, _+_, _-_}
 use lib.Dec.{leb, eqb}
@@ -68,3 +69,15 @@ classNumber c =
     (cond (within 97 122 c || within 65 90 c) 6
     (cond (eqb c 95) 7
     (cond (isNonPrintable c) 8 (signNumber c)))))))))
+
+-- r is the class number of c, and tells each class
+pub record ClassNumber (c r : ℕ) : Type 0 where
+  pub number : r ≡ classNumber c
+  pub newline : isNewline c ≡ eqb r 1
+  pub whitespace : isWhitespace c ≡ within 1 2 r
+  pub digit : isDigit c ≡ eqb r 4
+  pub hex-digit : isHexDigit c ≡ within 4 5 r
+  pub letter : isLetter c ≡ within 5 6 r
+  pub ident-start : isIdentStart c ≡ within 5 7 r
+  pub ident : isIdent c ≡ within 3 7 r
+  pub non-printable : isNonPrintable c ≡ eqb r 8

@@ -1,5 +1,5 @@
 //! The classes of code points, by one table.
-ghost use Rattle.codepoint.specs.Classes.{classNumber, hexValueIfAny, isDigit, isHexDigit, isIdent, isIdentStart, isLetter, isNewline, isNonPrintable, isWhitespace};
+ghost use Rattle.codepoint.specs.Classes.{ClassNumber, hexValueIfAny, isDigit, isHexDigit, isIdent, isIdentStart, isLetter, isNewline, isNonPrintable, isWhitespace, within};
 ghost use mathlib.Core.Path.{_≡_};
 
 /// Class numbers. Of the signs with a token kind of their own, the class number is that kind's.
@@ -34,7 +34,7 @@ const CLASSES: [u8; 256] = [
 
 /// The class number of any code point: past the table all are ident-start.
 pub fn class_of(c: u32) -> u8
-    ensures { λ r. ⌜ r ≡ classNumber c ⌝ }
+    ensures { λ r. ⌜ ClassNumber c r ⌝ }
 {
     if c < 256 { CLASSES[c as usize] } else { OTHER_IDENT_START }
 }
@@ -48,7 +48,7 @@ pub fn is_newline(c: u32) -> bool
 pub fn is_whitespace(c: u32) -> bool
     ensures { λ r. ⌜ r ≡ isWhitespace c ⌝ }
 {
-    matches!(class_of(c), NEWLINE | BLANK)
+    is_between(NEWLINE, BLANK, class_of(c))
 }
 
 pub fn is_digit(c: u32) -> bool
@@ -60,31 +60,37 @@ pub fn is_digit(c: u32) -> bool
 pub fn is_hex_digit(c: u32) -> bool
     ensures { λ r. ⌜ r ≡ isHexDigit c ⌝ }
 {
-    matches!(class_of(c), DIGIT | HEX_LETTER)
+    is_between(DIGIT, HEX_LETTER, class_of(c))
 }
 
 pub fn is_letter(c: u32) -> bool
     ensures { λ r. ⌜ r ≡ isLetter c ⌝ }
 {
-    matches!(class_of(c), HEX_LETTER | OTHER_LETTER)
+    is_between(HEX_LETTER, OTHER_LETTER, class_of(c))
 }
 
 pub fn is_ident_start(c: u32) -> bool
     ensures { λ r. ⌜ r ≡ isIdentStart c ⌝ }
 {
-    matches!(class_of(c), HEX_LETTER..=OTHER_IDENT_START)
+    is_between(HEX_LETTER, OTHER_IDENT_START, class_of(c))
 }
 
 pub fn is_ident(c: u32) -> bool
     ensures { λ r. ⌜ r ≡ isIdent c ⌝ }
 {
-    matches!(class_of(c), HYPHEN..=OTHER_IDENT_START)
+    is_between(HYPHEN, OTHER_IDENT_START, class_of(c))
 }
 
 pub fn is_non_printable(c: u32) -> bool
     ensures { λ r. ⌜ r ≡ isNonPrintable c ⌝ }
 {
     class_of(c) == NON_PRINTABLE
+}
+
+fn is_between(low: u8, high: u8, class: u8) -> bool
+    ensures { λ r. ⌜ r ≡ within low high class ⌝ }
+{
+    low <= class && class <= high
 }
 
 /// The value of a hex digit.

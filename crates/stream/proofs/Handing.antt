@@ -10,7 +10,6 @@ use lib.Dec.{leb}
 use lib.ListN.{length, getD, take, drop, length-drop, length-append}
 use lib.Seq.{drop-cons, drop-drop, take-all}
 use Rattle.std.proofs.shelf.Lists.{drop-all}
-use Rattle.std.proofs.shelf.Tests.{cond-true, cond-false, le-leb, lt-leb}
 use Rattle.std.specs.declared.option.Option.the-variants.{Some, None}
 use Rattle.std.specs.declared.result.Result.the-variants.{Ok, Err}
 use Rattle.codepoint.specs.declared.utf8.Decoded.{Decoded}
@@ -37,16 +36,16 @@ module _ (i : ℕ) (xs : List ℕ) where
       → Hands (cond b ((c, i) ∷ r) []) (cond b e (stops (OutOfRange i))) (Err (OutOfRange i)) (cond b ((c, i) ∷ r) []) (cond b e (stops (OutOfRange i)))
   large b q c r e = rw q (refl, refl, refl)
 
-  pub array-at-large : i < length xs → 0x10ffff < getD xs i 0
+  pub array-at-large : i < length xs → leb (getD xs i 0) 0x10ffff ≡ false
       → Hands (arrayPoints i (drop i xs)) (arrayEnding i (drop i xs)) (Err (OutOfRange i)) (arrayPoints i (drop i xs)) (arrayEnding i (drop i xs))
-  array-at-large h k = rw (front h) (large (leb (getD xs i 0) 0x10ffff) (lt-leb (getD xs i 0) 0x10ffff k) _ _ _)
+  array-at-large h k = rw (front h) (large (leb (getD xs i 0) 0x10ffff) k _ _ _)
 
   point : (b : Bool) → b ≡ true → (c : ℕ) (r : List Placed) (e d : Ending) → Hands (cond b ((c, i) ∷ r) []) (cond b e d) (Ok (Point (c, i))) r e
   point b q c r e d = rw q (refl, refl, refl)
 
-  pub array-at-point : i < length xs → getD xs i 0 ≤ 0x10ffff
+  pub array-at-point : i < length xs → leb (getD xs i 0) 0x10ffff ≡ true
       → Hands (arrayPoints i (drop i xs)) (arrayEnding i (drop i xs)) (Ok (Point (getD xs i 0, i))) (arrayPoints (i + 1) (drop (i + 1) xs)) (arrayEnding (i + 1) (drop (i + 1) xs))
-  array-at-point h k = rw (front h) (point (leb (getD xs i 0) 0x10ffff) (le-leb (getD xs i 0) 0x10ffff k) _ _ _ _)
+  array-at-point h k = rw (front h) (point (leb (getD xs i 0) 0x10ffff) k _ _ _ _)
 
 -- a decoded sequence lies within its bytes
 pub decoded-fits : (bs : List ℕ) (c n : ℕ) → decoded bs ≡ decodes.Point c n → n ≤ length bs

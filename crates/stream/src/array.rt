@@ -1,6 +1,7 @@
 //! The source that reads code points from 32-bit numbers.
 ghost use Rattle.stream.specs.Sources.{arrayEnding, arrayPoints};
 ghost use Rattle.stream.specs.Within.{array-from-source, array-within};
+ghost use lib.Dec.{leb};
 ghost use lib.ListN.{drop};
 ghost use mathlib.Core.Path.{_≡_};
 use crate::fault::Fault;
@@ -38,10 +39,16 @@ pub impl Source for ArraySource<'_> as SourceOfArray {
             return Ok(Step::End(place));
         }
         let c = self.numbers[place];
-        if c > 0x10ffff {
+        if !is_code_point(c) {
             return Err(Fault::OutOfRange(place));
         }
         self.at = place + 1;
         Ok(Step::Point((c, place)))
     }
+}
+
+fn is_code_point(c: u32) -> bool
+    ensures { λ r. ⌜ r ≡ leb c 0x10ffff ⌝ }
+{
+    c <= 0x10ffff
 }

@@ -37,13 +37,12 @@ pub impl Sink for ComparingSink<'_> as SinkOfComparing {
 
     fn take(&mut self, byte: u8) -> Result<(), Fault> {
         let at = self.at;
-        if at >= self.expected.len() {
-            return Err(Fault::NotTaken(at));
+        match self.expected.get(at) {
+            Some(next) if *next == byte => {
+                self.at = at + 1;
+                Ok(())
+            }
+            _ => Err(Fault::NotTaken(at)),
         }
-        if byte != self.expected[at] {
-            return Err(Fault::NotTaken(at));
-        }
-        self.at = at + 1;
-        Ok(())
     }
 }

@@ -1,0 +1,56 @@
+// Sinks at their limits, and the program's refusals.
+use program::INPUT_LIMIT;
+use program::rewrite;
+use std::test::*;
+use stream::BufferSink;
+use stream::ComparingSink;
+use stream::Fault;
+use stream::FaultDebug;
+use stream::FaultDisplay;
+use stream::FaultPartialEq;
+use stream::Sink;
+use stream::SinkOfBuffer;
+use stream::SinkOfComparing;
+use stream::emit;
+use stream::emit_code_point;
+
+#[test]
+fn full_buffer(rt: LibcRuntime) -> Result<(), Fail> {
+    let mut sink = BufferSink::new(rt.alloc(), 2)?;
+    // U+00E9 has two bytes, so its second finds no cell
+    check_eq(sink.take(97), Ok(()))?;
+    check_eq(emit_code_point(&mut sink, 0xe9), Err(Fault::NotTaken(2)))?;
+    check_eq(sink.bytes(), b"a\xc3")?;
+    check_eq(sink.take(98), Err(Fault::NotTaken(2)))
+}
+
+#[test]
+fn comparing_at_a_wrong_byte_and_past_the_end() -> Result<(), Fail> {
+    let mut sink = ComparingSink::new(b"abc");
+    check_eq(emit(&mut sink, b"ab"), Ok(()))?;
+    check_eq(sink.take(98), Err(Fault::NotTaken(2)))?;
+    check(!sink.is_complete())?;
+    check_eq(sink.take(99), Ok(()))?;
+    check(sink.is_complete())?;
+    check_eq(sink.take(99), Err(Fault::NotTaken(3)))
+}
+
+#[test]
+fn sheet_that_is_too_long(rt: LibcRuntime) -> Result<(), Fail> {
+    let heap = rt.alloc();
+    // the length is refused before the ill-formed bytes are met
+    let sheet = vec![in heap; 0xffu8; INPUT_LIMIT + 1]?;
+    let mut sink = BufferSink::new(heap, 4)?;
+    check_eq(rewrite(sheet.as_slice(), &mut sink), Err(Fault::TooLong(32768)))?;
+    check_eq(sink.bytes().len(), 0)?;
+    check_eq(rewrite(b"ab\xff", &mut sink), Err(Fault::IllFormed(2)))?;
+    check_eq(sink.bytes(), b"ab")
+}
+
+#[test]
+fn faults_show_number_layer_and_place(rt: LibcRuntime) -> Result<(), Fail> {
+    let heap = rt.alloc();
+    check_eq(Fault::BadToken(4).to_string(heap)?.as_str(), "fault 6 writer 4")?;
+    check_eq(Fault::Outgrown(7).to_string(heap)?.as_str(), "fault 3 reader 7")?;
+    check_eq(Fault::Operator(77, 5).to_string(heap)?.as_str(), "fault 77 source 5")
+}
