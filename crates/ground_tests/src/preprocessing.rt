@@ -2,9 +2,9 @@
 use std::test::*;
 use stream::ArraySource;
 use stream::ByteSource;
-use stream::Fault;
-use stream::FaultDebug;
-use stream::FaultPartialEq;
+use refusal::Fault;
+use refusal::FaultDebug;
+use refusal::FaultPartialEq;
 use stream::Preprocess;
 use stream::Source;
 use stream::SourceOfArray;

@@ -8,7 +8,7 @@ use std::error::AnyError;
 use std::io::Read;
 use std::io::Write;
 use stream::BufferSink;
-use stream::FaultDisplay;
+use refusal::FaultDisplay;
 use stream::SinkOfBuffer;
 
 const HELP: &'static str = "usage: norm < SHEET > OUTPUT

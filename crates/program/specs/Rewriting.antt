@@ -7,8 +7,8 @@ use lib.ListN.{length}
 use Rattle.std.specs.declared.result.Result.{Result}
 use Rattle.std.specs.declared.result.Result.the-variants.{Err}
 use Rattle.codepoint.specs.Utf8.{codePointsOf, pointsFrom}
-use Rattle.stream.specs.declared.fault.Fault.{Fault}
-use Rattle.stream.specs.declared.fault.Fault.the-variants.{TooLong}
+use Rattle.refusal.specs.declared.fault.Fault.{Fault}
+use Rattle.refusal.specs.declared.fault.Fault.the-variants.{TooLong}
 use Rattle.stream.specs.Preprocess.{preprocessed}
 use Rattle.stream.specs.Sinks.{Copies}
 use Rattle.stream.specs.Sources.{byteEnding}

@@ -5,7 +5,7 @@
 //! ill-formed sequence or the first byte that the sink refuses.
 ghost use Rattle.program.specs.Rewriting.{Rewrites};
 use stream::ByteSource;
-use stream::Fault;
+use refusal::Fault;
 use stream::Preprocess;
 use stream::Sink;
 use stream::SourceOfBytes;

@@ -6,7 +6,7 @@ use Prim.Native.Nat.{ℕ}
 use Rattle.std.specs.declared.result.Result.{Result}
 use Rattle.std.specs.declared.result.Result.the-variants.{Ok, Err}
 use Rattle.codepoint.specs.Utf8.{bytesOf, codePointsOf, utf8}
-use Rattle.stream.specs.declared.fault.Fault.{Fault}
+use Rattle.refusal.specs.declared.fault.Fault.{Fault}
 use Rattle.stream.specs.Preprocess.{Placed}
 use Rattle.stream.specs.declared.source.Step.{Step}
 use Rattle.stream.specs.declared.source.Step.the-variants.{Point, End}

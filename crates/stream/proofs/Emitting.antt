@@ -12,8 +12,8 @@ use Rattle.std.specs.Orderings.{When}
 use Rattle.std.specs.Results.{ErrBy}
 use Rattle.std.specs.declared.result.Result.{Result}
 use Rattle.std.specs.declared.result.Result.the-variants.{Ok, Err}
-use Rattle.stream.specs.declared.fault.Fault.{Fault}
-use Rattle.stream.specs.declared.fault.Fault.the-variants.{NotTaken}
+use Rattle.refusal.specs.declared.fault.Fault.{Fault}
+use Rattle.refusal.specs.declared.fault.Fault.the-variants.{NotTaken}
 use Rattle.stream.specs.Sinks.{Takes, Emits, done, next, stop, Outcome}
 
 module _ {S : Type 0} (held : S → List ℕ) (takes : S → ℕ → Bool) where

@@ -5,7 +5,7 @@ use Prim.Native.Nat.{ℕ}
 use native.Mathlib.Omega.{arith}
 use Rattle.std.specs.declared.result.Result.{Result}
 use Rattle.std.specs.declared.result.Result.the-variants.{Ok, Err}
-use Rattle.stream.specs.declared.fault.Fault.{Fault}
+use Rattle.refusal.specs.declared.fault.Fault.{Fault}
 use Rattle.stream.specs.declared.source.Step.{Step}
 use Rattle.stream.specs.declared.source.Step.the-variants.{Point, End}
 use Rattle.stream.specs.Preprocess.{Placed}

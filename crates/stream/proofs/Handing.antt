@@ -18,7 +18,7 @@ use Rattle.codepoint.specs.Utf8.{decoded, illFormedFrom, illFormedThen, pointTh
 use Rattle.codepoint.proofs.Sequences.{decoded-is-encoding}
 use Rattle.codepoint.proofs.Utf8Laws.{encoding-is-not-empty, first-point}
 use Rattle.codepoint.proofs.Decoding.{decoded-is-not-empty}
-use Rattle.stream.specs.declared.fault.Fault.the-variants.{OutOfRange, IllFormed}
+use Rattle.refusal.specs.declared.fault.Fault.the-variants.{OutOfRange, IllFormed}
 use Rattle.stream.specs.declared.source.Step.the-variants.{Point, End}
 use Rattle.stream.specs.Preprocess.{Placed}
 use Rattle.stream.specs.Sources.{Ending, Hands, arrayEnding, arrayPoints, byteEnding, endingAt}

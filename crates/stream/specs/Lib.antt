@@ -1,4 +1,3 @@
-pub mod Faults
 pub mod Preprocess
 pub mod Sources
 pub mod Within

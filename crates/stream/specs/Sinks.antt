@@ -7,9 +7,9 @@ use lib.ListN.{length, getD, take}
 use Rattle.std.specs.Orderings.{When}
 use Rattle.std.specs.declared.result.Result.{Result}
 use Rattle.std.specs.declared.result.Result.the-variants.{Ok, Err}
-use Rattle.stream.specs.declared.fault.Fault.{Fault}
+use Rattle.refusal.specs.declared.fault.Fault.{Fault}
 use Rattle.codepoint.specs.Utf8.{bytesOf}
-use Rattle.stream.specs.declared.fault.Fault.the-variants.{NotTaken}
+use Rattle.refusal.specs.declared.fault.Fault.the-variants.{NotTaken}
 use Rattle.stream.specs.Sources.{Ending}
 use Rattle.stream.specs.Sources.Ending.{ends, stops}
 

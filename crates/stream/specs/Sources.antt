@@ -10,12 +10,12 @@ use Rattle.std.specs.declared.option.Option.the-variants.{Some, None}
 use Rattle.std.specs.declared.result.Result.{Result}
 use Rattle.std.specs.declared.result.Result.the-variants.{Ok, Err}
 use Rattle.codepoint.specs.Utf8.{illFormedFrom}
-use Rattle.stream.specs.declared.fault.Fault.{Fault}
-use Rattle.stream.specs.declared.fault.Fault.the-variants.{OutOfRange, IllFormed}
-use Rattle.stream.specs.declared.fault.Layer.the-variants.{Source}
+use Rattle.refusal.specs.declared.fault.Fault.{Fault}
+use Rattle.refusal.specs.declared.fault.Fault.the-variants.{OutOfRange, IllFormed}
+use Rattle.refusal.specs.declared.fault.Layer.the-variants.{Source}
 use Rattle.stream.specs.declared.source.Step.{Step}
 use Rattle.stream.specs.declared.source.Step.the-variants.{Point, End}
-use Rattle.stream.specs.Faults.{layerOf}
+use Rattle.refusal.specs.Faults.{layerOf}
 use Rattle.stream.specs.Preprocess.{Placed}
 
 -- how a source ends: the end with its place, or a fault

@@ -4,7 +4,7 @@ ghost use Rattle.stream.specs.Within.{array-from-source, array-within};
 ghost use lib.Dec.{leb};
 ghost use lib.ListN.{drop};
 ghost use mathlib.Core.Path.{_≡_};
-use crate::fault::Fault;
+use refusal::Fault;
 use crate::source::Source;
 use crate::source::Step;
 

@@ -5,7 +5,7 @@ ghost use Rattle.std.specs.Vec.{made};
 ghost use lib.Dec.{ltb};
 ghost use mathlib.Core.List.{[]};
 ghost use mathlib.Core.Path.{_≡_};
-use crate::fault::Fault;
+use refusal::Fault;
 use crate::sink::Sink;
 use std::alloc::AllocError;
 use std::alloc::Global;

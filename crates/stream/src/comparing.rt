@@ -4,7 +4,7 @@ ghost use lib.Dec.{eqb, ltb};
 ghost use lib.ListN.{getD, length, take as front};
 ghost use mathlib.Core.Bool.{_&&_};
 ghost use mathlib.Core.Path.{_≡_};
-use crate::fault::Fault;
+use refusal::Fault;
 use crate::sink::Sink;
 
 /// Stands over expected bytes, and takes only the one that comes next there.

@@ -1,7 +1,7 @@
 //! Bytes given to a sink one after another, up to the first that it refuses.
 ghost use Rattle.codepoint.specs.Utf8.{codePointsOf, utf8};
 ghost use Rattle.stream.specs.Sinks.{Copies, Emits, Outcome};
-use crate::fault::Fault;
+use refusal::Fault;
 use crate::sink::Sink;
 use crate::source::Source;
 use crate::source::Step;

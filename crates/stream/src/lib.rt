@@ -1,16 +1,14 @@
-//! Where code points come from and where bytes go: faults, sources and sinks.
+//! Where code points come from and where bytes go: sources and sinks.
 //!
 //! A trait says by ghost members what an implementation means, and code above is proved once against that meaning.
-//! Proved here: each fault answers its number, layer and place; the array source, the byte source and the
-//! preprocessing layer are sources with exactly the lists that their rules give; the buffer sink and the comparing
-//! sink are sinks that take exactly the bytes that their rules name; and bytes emitted to any sink are taken one
-//! after another up to the first that it refuses.
+//! Proved here: the array source, the byte source and the preprocessing layer are sources with exactly the lists that
+//! their rules give; the buffer sink and the comparing sink are sinks that take exactly the bytes that their rules
+//! name; and bytes emitted to any sink are taken one after another up to the first that it refuses.
 
 mod array;
 mod buffer;
 mod comparing;
 mod emission;
-mod fault;
 mod octets;
 mod preprocess;
 mod sink;
@@ -25,14 +23,6 @@ pub use comparing::SinkOfComparing;
 pub use emission::copy;
 pub use emission::emit;
 pub use emission::emit_code_point;
-pub use fault::Fault;
-pub use fault::FaultDebug;
-pub use fault::FaultDisplay;
-pub use fault::FaultPartialEq;
-pub use fault::Layer;
-pub use fault::LayerDebug;
-pub use fault::LayerDisplay;
-pub use fault::LayerPartialEq;
 pub use octets::ByteSource;
 pub use octets::SourceOfBytes;
 pub use preprocess::Preprocess;

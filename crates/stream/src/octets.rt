@@ -5,7 +5,7 @@ ghost use Rattle.stream.specs.Sources.{byteEnding};
 ghost use Rattle.stream.specs.Within.{byte-from-source, byte-within};
 ghost use lib.ListN.{drop, length};
 ghost use mathlib.Core.Path.{_≡_};
-use crate::fault::Fault;
+use refusal::Fault;
 use crate::source::Source;
 use crate::source::Step;
 use codepoint::utf8::Decoded;

@@ -2,7 +2,7 @@
 ghost use Rattle.stream.specs.Preprocess.{Preprocessing-settles, behind, preprocessed, replaced};
 ghost use Rattle.stream.specs.Within.{behind-within};
 ghost use mathlib.Core.Path.{_≡_};
-use crate::fault::Fault;
+use refusal::Fault;
 use crate::source::Source;
 use crate::source::Step;
 

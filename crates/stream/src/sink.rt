@@ -3,7 +3,7 @@ ghost use Prim.Native.Nat.{ℕ};
 ghost use Rattle.stream.specs.Sinks.{Takes};
 ghost use mathlib.Core.Bool.{Bool};
 ghost use mathlib.Core.List.{List};
-use crate::fault::Fault;
+use refusal::Fault;
 
 /// A sink holds a list of bytes, and has at each moment the bytes that it would take next.
 pub trait Sink {

@@ -3,7 +3,7 @@ ghost use Prim.Native.Nat.{ℕ};
 ghost use Rattle.stream.specs.Preprocess.{AllWithin, Placed};
 ghost use Rattle.stream.specs.Sources.{Ending, FromSource, Hands};
 ghost use mathlib.Core.List.{List};
-use crate::fault::Fault;
+use refusal::Fault;
 
 /// What a source hands over: a code point together with its place, or the end with its place.
 #[derive(Clone, Copy, PartialEq, Eq, Debug)]

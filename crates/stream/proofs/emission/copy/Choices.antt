@@ -2,7 +2,7 @@ use mathlib.Core.Path.{_≡_}
 use lib.ListN.{length}
 use Rattle.std.specs.declared.result.Result.{Result}
 use Rattle.codepoint.specs.Utf8.{codePointsOf}
-use Rattle.stream.specs.declared.fault.Fault.{Fault}
+use Rattle.refusal.specs.declared.fault.Fault.{Fault}
 use Rattle.stream.specs.Sinks.{Copies}
 use Prim.Native.Nat.{ℕ}
 use Rattle.stream.proofs.emission.copy.Given as given

@@ -1,7 +1,7 @@
 use mathlib.Core.List.{List}
 use lib.ListN.{drop}
 use Rattle.std.specs.declared.result.Result.{Result}
-use Rattle.stream.specs.declared.fault.Fault.{Fault}
+use Rattle.refusal.specs.declared.fault.Fault.{Fault}
 use Rattle.stream.specs.Sinks.{Emits}
 use Rattle.stream.proofs.emission.emit.Given as given
 

@@ -1,11 +1,11 @@
 //! Refusals. One enum serves every layer, and goes up through every call unaltered.
 ghost use Rattle.std.specs.declared.option.Option.the-variants.{Some};
-ghost use Rattle.stream.specs.Faults.{faultShown, layerName, layerOf, numberOf, placeOf};
+ghost use Rattle.refusal.specs.Faults.{faultShown, layerName, layerOf, numberOf, placeOf};
 ghost use mathlib.Core.Path.{_≡_};
 use std::fmt;
 
 /// The layer that a refusal comes from.
-#[derive(Clone, Copy, PartialEq, Eq, Debug)]
+#[derive(Clone, Copy, PartialEq, Eq)]
 pub enum Layer {
     Source,
     Reader,
@@ -15,7 +15,7 @@ pub enum Layer {
 }
 
 /// A refusal, with its place. The comments say each case's number.
-#[derive(Clone, Copy, PartialEq, Eq, Debug)]
+#[derive(Clone, Copy, PartialEq, Eq)]
 pub enum Fault {
     /// 1: a number above U+10FFFF in an array of code points, at its index.
     OutOfRange(usize),
@@ -142,5 +142,12 @@ pub impl fmt::Display for Fault as FaultDisplay {
         let layer = self.layer();
         let place = self.place();
         write!(f, "fault {number} {layer} {place}")
+    }
+}
+
+/// For logs, the same text.
+pub impl fmt::Debug for Fault as FaultDebug {
+    fn fmt<W: fmt::Write>(&self, f: &mut fmt::Formatter<W>) -> fmt::Result {
+        write!(f, "{self}")
     }
 }

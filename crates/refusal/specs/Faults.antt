@@ -3,10 +3,10 @@ use mathlib.Core.List.{List, _++_}
 use Prim.Native.Nat.{ℕ}
 use lib.Chars.{codes}
 use Rattle.std.specs.Written.{decimal}
-use Rattle.stream.specs.declared.fault.Fault.{Fault}
-use Rattle.stream.specs.declared.fault.Fault.the-variants.{OutOfRange, IllFormed, Outgrown, NotTaken, Unlawful, BadToken, RepeatedWhitespace, OutOfTurn, NoRoom, BlockOpen, TooDeep, WrongSlip, Unclosed, Finished, TooLong, Operator}
-use Rattle.stream.specs.declared.fault.Layer.{Layer}
-use Rattle.stream.specs.declared.fault.Layer.the-variants.{Source, Reader, Sink, Writer, Program}
+use Rattle.refusal.specs.declared.fault.Fault.{Fault}
+use Rattle.refusal.specs.declared.fault.Fault.the-variants.{OutOfRange, IllFormed, Outgrown, NotTaken, Unlawful, BadToken, RepeatedWhitespace, OutOfTurn, NoRoom, BlockOpen, TooDeep, WrongSlip, Unclosed, Finished, TooLong, Operator}
+use Rattle.refusal.specs.declared.fault.Layer.{Layer}
+use Rattle.refusal.specs.declared.fault.Layer.the-variants.{Source, Reader, Sink, Writer, Program}
 
 abbrev pub numberOf : Fault → ℕ
 numberOf (OutOfRange p) = 1
