@@ -1,0 +1,4 @@
+pub mod Reads
+pub mod Holding
+pub mod NextToken
+pub mod Readings

@@ -1,0 +1,4 @@
+pub mod Ahead
+pub mod Windows
+pub mod Fills
+pub mod Tests

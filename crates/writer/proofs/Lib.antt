@@ -1,0 +1,4 @@
+pub mod Steps
+pub mod Replaying
+pub mod Admitted
+pub mod RunLaws

@@ -1,0 +1,5 @@
+pub mod Blocks
+pub mod Refusals
+pub mod States
+pub mod Writes
+pub mod Runs
