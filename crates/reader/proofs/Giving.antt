@@ -8,7 +8,7 @@ use native.Mathlib.Omega.{arith}
 use lib.Dec.{ltb}
 use lib.ListN.{drop, take, length}
 use lib.Seq.{take-all, take-append-seam, drop-append-seam}
-use Rattle.std.proofs.shelf.Tests.{ltb-false}
+use Rattle.std.proofs.shelf.Tests.{cond-false, le-ltb, ltb-false}
 use Rattle.std.specs.declared.result.Result.{Result}
 use Rattle.std.specs.declared.result.Result.the-variants.{Ok, Err}
 use Rattle.codepoint.specs.Utf8.{codePointsOf}
@@ -23,12 +23,13 @@ use Rattle.syntax.specs.Bodies.{inComments, pastComments}
 use Rattle.syntax.specs.Reading.{Found, Next as Reached, Yields, foundAt, next, nextAt, tokenOf}
 use Rattle.syntax.specs.Reading.Next.{end, token}
 use Rattle.syntax.specs.Extents.{before, taken, takenAt, collected, collectedAt}
+use Rattle.syntax.proofs.Chains.{yields-once}
 use Rattle.scan.specs.Ahead.{Ahead, codes, past}
 use Rattle.scan.proofs.States.{codes-past, drop-drop}
 use Rattle.reader.specs.declared.answer.Located.{Located}
 use Rattle.reader.specs.declared.answer.Next.{Next}
 use Rattle.reader.specs.declared.answer.Next.the-variants.{Token, End}
-use Rattle.reader.specs.declared.answer.State.the-variants.{Going}
+use Rattle.reader.specs.declared.answer.State.the-variants.{Going, Ended}
 use Rattle.reader.specs.NextToken.{Answers, Model, NextToken, NextTokenFrom, answered, begun, endAnswer, located, overwritten, placeOf, unlessStopped}
 use Rattle.reader.specs.Readings.{GivesTheTokens, Reading, valueIn}
 use Rattle.reader.specs.Readings.Reading.{ended, gave}
@@ -159,18 +160,39 @@ reading-yields m us e (ended n m′ p cells cells′ h) = end-step m m′ cells 
 reading-yields m us e (gave n m′ t cells cells′ ts h more) =
     let k = token-step m m′ cells cells′ t e h in (codes (m′ .ahead), k .0, reading-yields m′ ts (k .1) more)
 
--- a list yields one list of tokens
-pub yields-once : (s : List ℕ) (ts us : List TokenValue) → Yields s ts → Yields s us → us ≡ ts
-yields-once s [] [] h k = refl
-yields-once s [] (u ∷ us) h k = let z : _≡_ {A = ℕ} 0 1 = cc (sym h ∙ k .1) in absurd (omega arith)
-yields-once s (t ∷ ts) [] h k = let z : _≡_ {A = ℕ} 0 1 = cc (sym k ∙ h .1) in absurd (omega arith)
-yields-once s (t ∷ ts) (u ∷ us) h k =
-    let e : token u (k .0) ≡ token t (h .0) = sym (k .1) ∙ h .1 in
-    let v : u ≡ t = cc e in
-    let r : k .0 ≡ h .0 = cc e in
-    λ i. v i ∷ yields-once (h .0) ts us (h .2) (subst (λ x. Yields x us) r (k .2)) i
-
 pub reading-gives : (points : List Placed) (ending : Ending) (ts : List TokenValue) → Reading (begun points ending) ts → GivesTheTokens points ts
 reading-gives points ending ts h =
     let y = reading-yields (begun points ending) ts refl h in
-    record { yields = y; no-others = λ us k. yields-once (codePointsOf (preprocessed points)) ts us y k }
+    record { yields = y; no-others = λ us k. yields-once (codePointsOf (preprocessed points)) us ts k y }
+
+-- where the source ends with the end, cells that hold each text and unit read the tokens
+told-where-it-fits : (v : Ahead) (p : ℕ) (value : TokenValue) (rest : List ℕ) → v .ending ≡ ends p → answered (length (collected (codes v))) v (token value rest) ≡ Ok (Token (located (placeOf v) value))
+unfolding answered
+told-where-it-fits v p value rest e =
+    cond-false (ltb (length (collected (codes v))) (length (collected (codes v)))) _ _ (le-ltb _ _ (omega arith)) ∙ by (ltb (length rest) 3) (v .ending) e
+  where
+    by : (b : Bool) (d : Ending) → d ≡ ends p → cond b (unlessStopped d (Ok (Token (located (placeOf v) value)))) (Ok (Token (located (placeOf v) value))) ≡ Ok (Token (located (placeOf v) value))
+    by true d k = ap (λ x. unlessStopped x (Ok (Token (located (placeOf v) value)))) k
+    by false d k = refl
+
+told-at-the-end : (cap : ℕ) (v : Ahead) (p : ℕ) → v .ending ≡ ends p → answered cap v end ≡ Ok (End p)
+unfolding answered
+told-at-the-end cap v p e = ap endAnswer e
+
+reading-of : (v : Ahead) (p : ℕ) (ts : List TokenValue) → v .ending ≡ ends p → Yields (codes v) ts → Reading (record { ahead = v; state = Going }) ts
+reading-of v p [] e y =
+    ended _ (record { ahead = past (before (codes v) + taken (codes v)) v; state = Ended p }) p (collected (codes v)) (overwritten (collected (codes v)) (collected (codes v)))
+    (record { answer = sym (ap (answered (length (collected (codes v))) v) y ∙ told-at-the-end _ v p e); cells = refl; left = refl }, refl)
+reading-of v p (t ∷ ts) e y =
+    let s = codes v in
+    let after = past (before s + taken s) v in
+    let cells = overwritten (collected s) (collected s) in
+    let is : valueIn (located (placeOf v) t) cells ≡ t = value-stands t (y .0) s (y .1) (placeOf v) (collected s) (omega arith) in
+    let r : codes after ≡ y .0 = codes-past (before s + taken s) v ∙ rest-follows t (y .0) s (y .1) in
+    subst (λ x. Reading (record { ahead = v; state = Going }) (x ∷ ts)) is
+    (gave _ (record { ahead = after; state = Going }) (located (placeOf v) t) (collected s) cells ts
+    (record { answer = sym (ap (answered (length (collected s)) v) (y .1) ∙ told-where-it-fits v p t (y .0) e); cells = refl; left = refl }, refl)
+    (reading-of after p ts e (subst (λ x. Yields x ts) (sym r) (y .2))))
+
+pub reading-exists : (points : List Placed) (ending : Ending) (p : ℕ) (ts : List TokenValue) → ending ≡ ends p → Yields (codePointsOf (preprocessed points)) ts → Reading (begun points ending) ts
+reading-exists points ending p ts e y = reading-of (record { list = preprocessed points; ending = ending }) p ts e y

@@ -70,6 +70,9 @@ rest-shorter s r l =
     let k = l .some in
     omega arith
 
+pub token-leaves-less : (s : List ℕ) (t : TokenValue) (r : List ℕ) → next s ≡ token t r → length r < length s
+token-leaves-less s t r e = rest-shorter s r (lies s t r e)
+
 -- so reading comes to an end
 record Cuts (s : List ℕ) : Type 0 where
   pieces : List Piece

@@ -32,7 +32,7 @@ other-left t e =
     cond-both (isDelim 47 t) _ _ P (λ _. refl) (λ _.
     cond-both (isKind Whitespace t) _ _ P (λ w. absurd (both-ways _ e w)) (λ _. refl))))))))
 
-whitespace-left : (t : TokenValue) → isWhitespaceLeft (leftOf t) ≡ isKind Whitespace t
+pub whitespace-left : (t : TokenValue) → isWhitespaceLeft (leftOf t) ≡ isKind Whitespace t
 unfolding leftOf
 whitespace-left t = ⊎-elim (λ e. rw (kind-is (t .kind) Whitespace e) refl) (λ e. other-left t e ∙ sym e) (cases-bool (isKind Whitespace t))
 

@@ -1,0 +1,5 @@
+pub mod Stepping
+pub mod Transferring
+pub mod Refusing
+pub mod Answering
+pub mod Settling

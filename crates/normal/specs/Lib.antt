@@ -1,0 +1,2 @@
+pub mod Normalizing
+pub mod Law
