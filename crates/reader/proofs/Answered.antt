@@ -16,6 +16,7 @@ use Rattle.refusal.specs.declared.fault.Fault.the-variants.{Outgrown}
 use Rattle.stream.specs.Preprocess.{Placed}
 use Rattle.stream.specs.Sources.{Ending}
 use Rattle.stream.specs.Sources.Ending.{ends, stops}
+use Rattle.stream.specs.Sinks.{ended}
 use Rattle.syntax.specs.Kinds.{isBadKind}
 use Rattle.syntax.specs.Bodies.{pastComments}
 use Rattle.syntax.specs.Reading.{Found, Next as Reached, next, nextAt, tokenOf}
@@ -23,7 +24,7 @@ use Rattle.syntax.specs.Reading.Next.{end, token}
 use Rattle.syntax.specs.Extents.{before, taken, takenAt, collected, collectedAt}
 use Rattle.scan.specs.declared.fill.Fill.{Fill}
 use Rattle.scan.specs.declared.lookahead.Peek.{Peek}
-use Rattle.scan.specs.Ahead.{Ahead, EndsAtZero, Left, codes, endTold, past, peeked}
+use Rattle.scan.specs.Ahead.{Ahead, EndsAtZero, Left, codes, past, peeked}
 use Rattle.scan.specs.Fills.{onto, filled, laid, empty}
 use Rattle.scan.proofs.Cells.{filled-outgrown, laid-words}
 use Rattle.scan.proofs.States.{same, past-past, length-codes}
@@ -58,19 +59,19 @@ first-of-drop [] (suc k) = refl
 first-of-drop (p ∷ ps) (suc k) = first-of-drop ps k
 
 -- the ending, as it is told
-pub end-told : (p : ℕ) (e : Ending) → Ok p ≡ endTold e → Ok (End p) ≡ endAnswer e
+pub end-told : (p : ℕ) (e : Ending) → Ok p ≡ ended e → Ok (End p) ≡ endAnswer e
 end-told p (ends q) h = let z : p ≡ q = cc h in ap (λ x. Ok (End x)) z
 end-told p (stops f) h = let z : _≡_ {A = ℕ} 0 1 = cc h in absurd (omega arith)
 
-pub fault-told : (f : Fault) (e : Ending) → Err f ≡ endTold e → Err f ≡ endAnswer e
+pub fault-told : (f : Fault) (e : Ending) → Err f ≡ ended e → Err f ≡ endAnswer e
 fault-told f (ends q) h = let z : _≡_ {A = ℕ} 0 1 = cc h in absurd (omega arith)
 fault-told f (stops g) h = let z : f ≡ g = cc h in ap Err z
 
-not-stopped : (p : ℕ) (e : Ending) (r : Result Next Fault) → Ok p ≡ endTold e → r ≡ unlessStopped e r
+not-stopped : (p : ℕ) (e : Ending) (r : Result Next Fault) → Ok p ≡ ended e → r ≡ unlessStopped e r
 not-stopped p (ends q) r h = refl
 not-stopped p (stops f) r h = let z : _≡_ {A = ℕ} 0 1 = cc h in absurd (omega arith)
 
-stopped : (f : Fault) (e : Ending) (r : Result Next Fault) → Err f ≡ endTold e → Err f ≡ unlessStopped e r
+stopped : (f : Fault) (e : Ending) (r : Result Next Fault) → Err f ≡ ended e → Err f ≡ unlessStopped e r
 stopped f (ends q) r h = let z : _≡_ {A = ℕ} 0 1 = cc h in absurd (omega arith)
 stopped f (stops g) r h = let z : f ≡ g = cc h in ap Err z
 
@@ -178,9 +179,9 @@ module _ (v s1 sl : Ahead) (c0 c1 : List ℕ) (s2 : Ahead) (w : Peek) (read : Re
     left = m ∙ left-is;
   }
 
-  pub outgrown-answers : read .all .outgrown ≡ true → Answers v c0 (Err (Outgrown (w .place))) c1 s2
+  pub outgrown-answers : (s3 : Ahead) → s3 ≡ s2 → read .all .outgrown ≡ true → Answers v c0 (Err (Outgrown (w .place))) c1 s3
   unfolding answered
-  outgrown-answers h = answers _ s2 (ap (λ p. Err (Outgrown p)) place-is ∙ sym (cond-true _ _ _ (sym outgrown-so ∙ h))) refl
+  outgrown-answers s3 m h = answers _ s3 (ap (λ p. Err (Outgrown p)) place-is ∙ sym (cond-true _ _ _ (sym outgrown-so ∙ h))) m
 
   module _ (s3 : Ahead) (u : Peek) (t : Located) (m : s3 ≡ s2) (seen2 : u ≡ peeked (s2 .list)) (at : EndsAtZero u (s2 .list)) (fits : read .all .outgrown ≡ false)
       (e : t ≡ record { kind = read .kind; mark = read .mark; text = cond (isBadKind (read .kind)) 0 (read .text .len); unit = read .all .len - read .text .len; place = w .place }) where
@@ -207,12 +208,12 @@ module _ (v s1 sl : Ahead) (c0 c1 : List ℕ) (s2 : Ahead) (w : Peek) (read : Re
     near : u .third ≡ 0 → ltb (length (foundFrom (pastComments (codes v)) .rest)) 3 ≡ true
     near n = let few : length (foundFrom (pastComments (codes v)) .rest) < 3 = (let q = rest-long in let p = at .two n in omega arith) in lt-ltb _ 3 few
 
-    pub near-end-answers : (s4 : Ahead) (p : ℕ) → u .third ≡ 0 → s4 ≡ s3 → Ok p ≡ endTold (s3 .ending) → Answers v c0 (Ok (Token t)) c1 s4
+    pub near-end-answers : (s4 : Ahead) (p : ℕ) → u .third ≡ 0 → s4 ≡ s3 → Ok p ≡ ended (s3 .ending) → Answers v c0 (Ok (Token t)) c1 s4
     unfolding answered
     near-end-answers s4 p n q h =
-        answers _ s4 (not-stopped p (v .ending) (Ok (Token t)) (h ∙ ap endTold ending-is) ∙ ap (unlessStopped (v .ending)) token-is ∙ sym (cond-false _ _ _ fits-so ∙ cond-true _ _ _ (near n))) (q ∙ m)
+        answers _ s4 (not-stopped p (v .ending) (Ok (Token t)) (h ∙ ap ended ending-is) ∙ ap (unlessStopped (v .ending)) token-is ∙ sym (cond-false _ _ _ fits-so ∙ cond-true _ _ _ (near n))) (q ∙ m)
 
-    pub near-fault-answers : (s4 : Ahead) (f : Fault) → u .third ≡ 0 → s4 ≡ s3 → Err f ≡ endTold (s3 .ending) → Answers v c0 (Err f) c1 s4
+    pub near-fault-answers : (s4 : Ahead) (f : Fault) → u .third ≡ 0 → s4 ≡ s3 → Err f ≡ ended (s3 .ending) → Answers v c0 (Err f) c1 s4
     unfolding answered
     near-fault-answers s4 f n q h =
-        answers _ s4 (stopped f (v .ending) _ (h ∙ ap endTold ending-is) ∙ sym (cond-false _ _ _ fits-so ∙ cond-true _ _ _ (near n))) (q ∙ m)
+        answers _ s4 (stopped f (v .ending) _ (h ∙ ap ended ending-is) ∙ sym (cond-false _ _ _ fits-so ∙ cond-true _ _ _ (near n))) (q ∙ m)

@@ -25,11 +25,11 @@ pub fn answer_next<L: Lookahead>(input: &mut L, cells: &mut [u32]) -> Result<Nex
         return Ok(Next::End(end));
     }
     let read = read_token(input, cells);
+    let behind = input.peek();
     if read.all.outgrown {
         return Err(Fault::Outgrown(seen.place));
     }
     let token = Next::Token(locate(read, seen.place));
-    let behind = input.peek();
     if behind.third != EOF {
         return Ok(token);
     }

@@ -3,13 +3,9 @@ use mathlib.Core.Path.{_≡_}
 use mathlib.Core.List.{List, [], _∷_}
 use Prim.Native.Nat.{ℕ, _≤_}
 use lib.ListN.{getD, drop, length}
-use Rattle.std.specs.declared.result.Result.{Result}
-use Rattle.std.specs.declared.result.Result.the-variants.{Ok, Err}
 use Rattle.codepoint.specs.Utf8.{codePointsOf}
 use Rattle.stream.specs.Preprocess.{Placed}
 use Rattle.stream.specs.Sources.{Ending}
-use Rattle.stream.specs.Sources.Ending.{ends, stops}
-use Rattle.refusal.specs.declared.fault.Fault.{Fault}
 use Rattle.scan.specs.declared.lookahead.Peek.{Peek}
 
 -- code points with their places, and the ending
@@ -39,8 +35,3 @@ pub record EndsAtZero (r : Peek) (ps : List Placed) : Type 0 where
   pub none : r .first ≡ 0 → ps ≡ []
   pub one : r .second ≡ 0 → length ps ≤ 1
   pub two : r .third ≡ 0 → length ps ≤ 2
-
--- the end's place, or the fault
-abbrev pub endTold : Ending → Result ℕ Fault
-endTold (ends p) = Ok p
-endTold (stops f) = Err f

@@ -1,6 +1,7 @@
 //! Reading with the next three code points in sight.
 ghost use Prim.Native.Nat.{_≤_};
-ghost use Rattle.scan.specs.Ahead.{Ahead, EndsAtZero, endTold, past, peeked};
+ghost use Rattle.scan.specs.Ahead.{Ahead, EndsAtZero, past, peeked};
+ghost use Rattle.stream.specs.Sinks.{ended};
 ghost use lib.ListN.{length};
 ghost use mathlib.Core.Path.{_≡_};
 use refusal::Fault;
@@ -32,5 +33,5 @@ pub trait Lookahead {
     fn ending(&mut self) -> Result<usize, Fault>
         requires { ⌜ length (rest (now self) .list) ≤ 2 ⌝ }
         ensures same { λ _. ⌜ rest (now (self .exit)) ≡ rest (now (self .entry)) ⌝ }
-        ensures told { λ r. ⌜ r ≡ endTold (rest (now (self .entry)) .ending) ⌝ };
+        ensures told { λ r. ⌜ r ≡ ended (rest (now (self .entry)) .ending) ⌝ };
 }

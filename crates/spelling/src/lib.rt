@@ -16,8 +16,5 @@ pub use place::QuotedStringPlace;
 pub use place::SpellingPlace;
 pub use place::Url;
 pub use place::UrlPlace;
-pub use text::emit_hex;
-pub use text::emit_points;
 pub use text::emit_text;
-pub use text::emit_unit;
 pub use token::emit_token;

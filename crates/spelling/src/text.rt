@@ -19,7 +19,7 @@ use stream::emit_code_point;
 use syntax::place::Treatment;
 
 /// Code points as they are.
-pub fn emit_points<S: Sink>(sink: &mut S, points: &[u32]) -> Result<(), Fault>
+pub(crate) fn emit_points<S: Sink>(sink: &mut S, points: &[u32]) -> Result<(), Fault>
     ensures { λ r. ⌜ Emits held takes (now (sink .entry)) (bytesOf (now (points .entry))) r (now (sink .exit)) ⌝ }
 {
     for c in points {
@@ -50,7 +50,7 @@ fn emit_hex_digits<S: Sink>(sink: &mut S, most: u32, value: u32) -> Result<(), F
 }
 
 /// A hex escape: the backslash, the digits, and a space.
-pub fn emit_hex<S: Sink>(sink: &mut S, c: u32) -> Result<(), Fault>
+fn emit_hex<S: Sink>(sink: &mut S, c: u32) -> Result<(), Fault>
     ensures { λ r. ⌜ Emits held takes (now (sink .entry)) (bytesOf (hex c)) r (now (sink .exit)) ⌝ }
 {
     emit(sink, b"\\")?;
@@ -140,7 +140,7 @@ fn needs_hex(number: &[u32], unit: &[u32]) -> bool
 }
 
 /// A unit behind a number: an identifier, whose first `e` becomes hex where it would be read as an exponent.
-pub fn emit_unit<S: Sink>(sink: &mut S, number: &[u32], unit: &[u32]) -> Result<(), Fault>
+pub(crate) fn emit_unit<S: Sink>(sink: &mut S, number: &[u32], unit: &[u32]) -> Result<(), Fault>
     ensures { λ r. ⌜ Emits held takes (now (sink .entry)) (bytesOf (spelledIn (unitBehind (now (number .entry))) (now (unit .entry)))) r (now (sink .exit)) ⌝ }
 {
     if needs_hex(number, unit) {

@@ -25,6 +25,11 @@ use Rattle.writer.specs.Writes.{bytesAdded, kindsWith, Adds, Puts, put-refused
 pub stopped-at : {s s′ : State} {p q : ℕ} → p ≡ q → Stopped s p s′ → Stopped s q s′
 stopped-at {s} {s′} e h = subst (λ v. Stopped s v s′) e h
 
+-- what a `?` answers
+pub answers-fault : (f : Fault) (r : Result (Unit {0}) Fault) → ErrBy r (λ y. y ≡ f) → Err f ≡ r
+answers-fault f (Err y) e = ap Err (sym e)
+answers-fault f (Ok x) e = absurd e
+
 module _ {S : Type 0} {held : S → List ℕ} {takes : S → ℕ → Bool} where
   -- the comment, where it is due, and the token are what the token adds
   pub with-comment : {x z : S} {r : Result (Unit {0}) Fault} (s : State) (t : TokenValue) (due : Bool) → due ≡ apart (s .left) (rightOf t)

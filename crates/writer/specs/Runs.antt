@@ -4,7 +4,6 @@ use mathlib.Core.Bool.{Bool, true}
 use mathlib.Core.List.{List, [], _∷_, map}
 use Prim.Native.Nat.{ℕ}
 use lib.ListN.{length, drop}
-use Rattle.std.specs.Results.{isOk}
 use Rattle.std.specs.declared.option.Option.{Option}
 use Rattle.std.specs.declared.option.Option.the-variants.{Some, None}
 use Rattle.std.specs.declared.result.Result.{Result}
@@ -45,11 +44,14 @@ asked (did-open t r) = call-open t
 asked (did-close d k r) = call-close d k
 asked (did-finish r) = call-finish
 
-abbrev pub unrefused : Deed → Bool
-unrefused (did-put t r) = isOk r
-unrefused (did-open t r) = isOk r
-unrefused (did-close d k r) = isOk r
-unrefused (did-finish r) = isOk r
+-- a call's answer, without a slip or numbers
+abbrev pub answer : Deed → Result (Unit {0}) Fault
+answer (did-put t r) = r
+answer (did-open t (Ok slip)) = Ok tt
+answer (did-open t (Err f)) = Err f
+answer (did-close d k r) = r
+answer (did-finish (Ok n)) = Ok tt
+answer (did-finish (Err f)) = Err f
 
 -- in order, the token of each unrefused put and open and the mirror of each unrefused close
 abbrev pub accepted : List Deed → List TokenValue
@@ -76,6 +78,13 @@ Does held takes w (did-put t r) w′ = Puts held takes w t r w′
 Does held takes w (did-open t r) w′ = Opens held takes w t r w′
 Does held takes w (did-close d k r) w′ = Closes held takes w d k r w′
 Does held takes w (did-finish r) w′ = Finishes held takes w r w′
+
+-- one call, by value
+pub record Makes {S : Type 0} (held : S → List ℕ) (takes : S → ℕ → Bool) (w : Writer S) (call : CallValue) (r : Result (Unit {0}) Fault) (u : Writer S) : Type 0 where
+  pub deed : Deed
+  pub of-call : asked deed ≡ call
+  pub answers : answer deed ≡ r
+  pub does : Does held takes w deed u
 
 pub data Run {S : Type 0} (held : S → List ℕ) (takes : S → ℕ → Bool) : Writer S → List Deed → Writer S → Type 0 where
   none : {w : Writer S} → Run held takes w [] w

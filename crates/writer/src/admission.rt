@@ -2,15 +2,16 @@
 ghost use Prim.Native.Nat.{_+_, _<_, _≤_};
 ghost use Rattle.std.specs.Vec.{made};
 ghost use Rattle.std.specs.declared.option.Option.the-variants.{Some};
-ghost use Rattle.syntax.specs.Kinds.{isBadKind, numberOf};
+ghost use Rattle.syntax.specs.Kinds.{isBadKind};
 ghost use Rattle.syntax.specs.Puts.{isWhitespaceLeft};
 ghost use Rattle.syntax.specs.Tokens.{isKind, valueOf};
+ghost use Rattle.syntax.specs.Turn.{isInTurn};
 ghost use Rattle.syntax.specs.declared.kind.Kind.the-variants.{Whitespace};
 ghost use Rattle.writer.specs.Blocks.{isBlockSign, mirror, opensBlock};
 ghost use Rattle.writer.specs.Refusals.{closeRefusals, finishRefusals, firstOf, isFree, isInnermost, openRefusals, putRefusals};
 ghost use Rattle.writer.specs.States.{Advanced, Ended, Fresh, Stopped};
 ghost use lib.Dec.{ltb};
-ghost use mathlib.Core.Bool.{_&&_};
+ghost use mathlib.Core.Bool.{_&&_, not};
 ghost use mathlib.Core.Path.{_≡_};
 use crate::comment::is_due;
 use crate::state::State;
@@ -53,6 +54,12 @@ impl State {
         self.depth > 0 && is_block_sign(kind)
     }
 
+    fn is_out_of_turn(self, token: Token<'_>) -> bool
+        ensures { λ r. ⌜ r ≡ not (isInTurn (self .waiting) (valueOf (token .entry))) ⌝ }
+    {
+        !is_in_turn(self.waiting, token)
+    }
+
     /// Whitespace directly after whitespace.
     fn repeats_whitespace(self, token: Token<'_>) -> bool
         ensures { λ r. ⌜ r ≡ (isWhitespaceLeft (self .left) && isKind Whitespace (valueOf (token .entry))) ⌝ }
@@ -84,7 +91,7 @@ impl State {
         if self.is_in_block(token.kind) {
             return Err(Fault::BlockOpen(place));
         }
-        if !is_in_turn(self.waiting, token) {
+        if self.is_out_of_turn(token) {
             return Err(Fault::OutOfTurn(place));
         }
         if self.repeats_whitespace(token) {
@@ -112,7 +119,7 @@ impl State {
         if !(opens_block(token.kind) && is_lawful(token)) {
             return Err(Fault::Unlawful(place));
         }
-        if !is_in_turn(self.waiting, token) {
+        if self.is_out_of_turn(token) {
             return Err(Fault::OutOfTurn(place));
         }
         if self.depth >= DEPTH {
@@ -149,7 +156,7 @@ impl State {
         if !self.is_innermost(depth, kind) {
             return Err(Fault::WrongSlip(place));
         }
-        if !is_in_turn(self.waiting, mirror_of(kind)) {
+        if self.is_out_of_turn(mirror_of(kind)) {
             return Err(Fault::OutOfTurn(place));
         }
         Ok(())

@@ -10,7 +10,7 @@ ending-requires g c κs =
 pub returns-in-Break-end : need.returns-in-Break-end
 returns-in-Break-end g c =
     let p = err-from-errBy (c .from-residual .result) (c .from-residual .ensures .1) in
-    rw (p .1, p .2) (ended-answers (g .L·Lookahead .rest (c .args .input .now)) _ _ _ _ _ _ (c .skip-comments .ensures) (c .peek-seen .ensures .same) (c .peek-seen .ensures .ends) (c .if-seen-eq-EOF .taken) (c .in-Break-end .ensures tt .same) (fault-told _ _ (c .in-Break-end .ensures tt .told)))
+    rw (p .1, p .2) (ended-answers (g .L·Lookahead .rest (c .args .input .now)) (g .L·Lookahead .rest (c .skip-comments .last .input)) (g .L·Lookahead .rest (c .peek-seen .last .self)) (g .L·Lookahead .rest (c .ending .last .self)) (c .args .cells .now) (c .peek-seen .result) _ (c .skip-comments .ensures) (c .peek-seen .ensures .same) (c .peek-seen .ensures .ends) (c .if-seen-eq-EOF .taken) (c .in-Break-end .ensures tt .same) (fault-told (c .in-Break-end .field-0 .0) (g .L·Lookahead .rest (c .peek-seen .last .self) .ending) (c .in-Break-end .ensures tt .told)))
 
 pub returns-then-seen-eq-EOF : need.returns-then-seen-eq-EOF
 returns-then-seen-eq-EOF g c =
@@ -18,7 +18,7 @@ returns-then-seen-eq-EOF g c =
 
 pub returns-then-read : need.returns-then-read
 returns-then-read g c =
-    outgrown-answers (g .L·Lookahead .rest (c .args .input .now)) _ _ _ _ _ _ _ (c .skip-comments .ensures) (c .peek-seen .ensures .same) (c .peek-seen .ensures .seen) (c .if-seen-eq-EOF .left) (c .read-token-read .ensures) (c .if-read .taken)
+    outgrown-answers (g .L·Lookahead .rest (c .args .input .now)) _ _ _ _ _ _ _ (c .skip-comments .ensures) (c .peek-seen .ensures .same) (c .peek-seen .ensures .seen) (c .if-seen-eq-EOF .left) (c .read-token-read .ensures) _ (c .peek-behind .ensures .same) (c .if-read .taken)
 
 pub returns-then-behind-ne-EOF : need.returns-then-behind-ne-EOF
 returns-then-behind-ne-EOF g c =
@@ -31,7 +31,7 @@ ending-requires-2 g c κs =
 pub returns-in-Break-ending : need.returns-in-Break-ending
 returns-in-Break-ending g c =
     let p = err-from-errBy (c .from-residual-in-Break-ending .result) (c .from-residual-in-Break-ending .ensures .1) in
-    rw (p .1, p .2) (near-fault-answers (g .L·Lookahead .rest (c .args .input .now)) _ _ _ _ _ _ _ (c .skip-comments .ensures) (c .peek-seen .ensures .same) (c .peek-seen .ensures .seen) (c .if-seen-eq-EOF .left) (c .read-token-read .ensures) _ _ _ (c .peek-behind .ensures .same) (c .peek-behind .ensures .seen) (c .peek-behind .ensures .ends) (c .if-read .left) (c .locate .ensures) _ _ (c .if-behind-ne-EOF .left) (c .in-Break-ending .ensures tt .same) (c .in-Break-ending .ensures tt .told))
+    rw (p .1, p .2) (near-fault-answers (g .L·Lookahead .rest (c .args .input .now)) _ _ _ _ _ _ _ (c .skip-comments .ensures) (c .peek-seen .ensures .same) (c .peek-seen .ensures .seen) (c .if-seen-eq-EOF .left) (c .read-token-read .ensures) _ _ _ (c .peek-behind .ensures .same) (c .peek-behind .ensures .seen) (c .peek-behind .ensures .ends) (c .if-read .left) (c .locate .ensures) _ (c .in-Break-ending .field-0 .0) (c .if-behind-ne-EOF .left) (c .in-Break-ending .ensures tt .same) (c .in-Break-ending .ensures tt .told))
 
 pub returns : need.returns
 returns g c =

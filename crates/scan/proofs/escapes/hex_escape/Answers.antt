@@ -4,6 +4,7 @@ use mathlib.Core.Logic.{_⊎_, inl, inr}
 use native.Mathlib.Omega.{arith}
 use lib.ListN.{getD}
 use Rattle.codepoint.specs.Classes.{isHexDigit, isWhitespace}
+use Rattle.syntax.specs.Escapes.{hexEscape}
 use Rattle.scan.specs.Ahead.{Ahead, codes, past}
 use Rattle.scan.proofs.Hexes.{HexEscaped, digit-turn, digits-end, fits}
 use Rattle.scan.proofs.escapes.hex_escape.Needs as need
@@ -18,9 +19,10 @@ add-value g c = omega (arith, fits (c .loop-more .more) (c .loop-more .value) (c
 pub loop-more-holds : need.loop-more-holds
 loop-more-holds g c =
     let look = c .peek-next .ensures in
+    let s : Ahead = g .L·Lookahead .rest (c .peek-next .last .self) in
     record {
-      same = refl;
-      at = refl;
+      same = refl {a = hexEscape 6 0 0 (codes s)};
+      at = refl {a = s};
       sees = ap (λ w. w .first) (look .seen) ∙ ap (λ s. getD (codes s) 0 0) (sym (look .same));
       few = omega arith;
       small = omega arith;

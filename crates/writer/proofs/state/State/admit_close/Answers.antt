@@ -14,9 +14,9 @@ pub returns-then-not-is-innermost : need.returns-then-not-is-innermost
 unfolding closeRefusals
 returns-then-not-is-innermost c = search needs
 
-pub returns-then-not-is-in-turn : need.returns-then-not-is-in-turn
+pub returns-then-is-out-of-turn : need.returns-then-is-out-of-turn
 unfolding closeRefusals
-returns-then-not-is-in-turn c = search needs
+returns-then-is-out-of-turn c = search needs
 
 pub returns : need.returns
 unfolding closeRefusals

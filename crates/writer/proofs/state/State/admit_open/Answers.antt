@@ -14,9 +14,9 @@ pub returns-then-not-is-lawful : need.returns-then-not-is-lawful
 unfolding openRefusals
 returns-then-not-is-lawful c = search needs
 
-pub returns-then-not-is-in-turn : need.returns-then-not-is-in-turn
+pub returns-then-is-out-of-turn : need.returns-then-is-out-of-turn
 unfolding openRefusals
-returns-then-not-is-in-turn c = search needs
+returns-then-is-out-of-turn c = search needs
 
 pub returns-then-self-ge-DEPTH : need.returns-then-self-ge-DEPTH
 unfolding openRefusals

@@ -22,9 +22,9 @@ pub returns-then-is-in-block : need.returns-then-is-in-block
 unfolding putRefusals
 returns-then-is-in-block c = search needs
 
-pub returns-then-not-is-in-turn : need.returns-then-not-is-in-turn
+pub returns-then-is-out-of-turn : need.returns-then-is-out-of-turn
 unfolding putRefusals
-returns-then-not-is-in-turn c = search needs
+returns-then-is-out-of-turn c = search needs
 
 pub returns-then-repeats-whitespace : need.returns-then-repeats-whitespace
 unfolding putRefusals

@@ -6,7 +6,7 @@ use Rattle.writer.proofs.writing.Writer.replay.Needs as need
 pub loop-call-again : need.loop-call-again
 loop-call-again g c = λ ds u e r.
     let d = c .call .ensures in
-    c .loop-call .inv (d .0 ∷ ds) u (front (c .args .calls .now) (c .loop-call .call-index) _ (d .0) ds (c .loop-call-test .taken) (d .1) e) (more (d .3) r)
+    c .loop-call .inv (d .deed ∷ ds) u (front (c .args .calls .now) (c .loop-call .call-index) _ (d .deed) ds (c .loop-call-test .taken) (d .of-call) e) (more (d .does) r)
 
 pub returns : need.returns
 returns g c =
