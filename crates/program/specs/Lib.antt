@@ -1,1 +1,1 @@
-pub mod Rewriting
+pub mod Forming

@@ -16,7 +16,7 @@ use Rattle.refusal.specs.declared.fault.Fault.the-variants.{Outgrown}
 use Rattle.stream.specs.Preprocess.{Placed}
 use Rattle.stream.specs.Sources.{Ending}
 use Rattle.stream.specs.Sources.Ending.{ends, stops}
-use Rattle.stream.specs.Sinks.{ended}
+use Rattle.stream.specs.Sources.{ended}
 use Rattle.syntax.specs.Kinds.{isBadKind}
 use Rattle.syntax.specs.Bodies.{pastComments}
 use Rattle.syntax.specs.Reading.{Found, Next as Reached, next, nextAt, tokenOf}

@@ -1,7 +1,7 @@
 //! Reading with the next three code points in sight.
 ghost use Prim.Native.Nat.{_≤_};
 ghost use Rattle.scan.specs.Ahead.{Ahead, EndsAtZero, past, peeked};
-ghost use Rattle.stream.specs.Sinks.{ended};
+ghost use Rattle.stream.specs.Sources.{ended};
 ghost use lib.ListN.{length};
 ghost use mathlib.Core.Path.{_≡_};
 use refusal::Fault;

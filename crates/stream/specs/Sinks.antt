@@ -8,10 +8,7 @@ use Rattle.std.specs.Orderings.{When}
 use Rattle.std.specs.declared.result.Result.{Result}
 use Rattle.std.specs.declared.result.Result.the-variants.{Ok, Err}
 use Rattle.refusal.specs.declared.fault.Fault.{Fault}
-use Rattle.codepoint.specs.Utf8.{bytesOf}
 use Rattle.refusal.specs.declared.fault.Fault.the-variants.{NotTaken}
-use Rattle.stream.specs.Sources.{Ending}
-use Rattle.stream.specs.Sources.Ending.{ends, stops}
 
 -- a byte that the sink takes is added at the end, and nothing is said of what it takes then;
 -- any other is refused, and changes neither what is held nor what is taken
@@ -33,13 +30,3 @@ abbrev pub Outcome : {S : Type 0} → (S → List ℕ) → (S → ℕ → Bool) 
 Outcome held takes s bs (Ok u) s′ = held s′ ≡ held s ++ bs
 Outcome held takes s bs (Err f) s′ =
     (k : ℕ) × (k < length bs) × (held s′ ≡ held s ++ take k bs) × (takes s′ (getD bs k 0) ≡ false) × (f ≡ NotTaken (length (held s′)))
-
--- the end's place, or the fault
-abbrev pub ended : Ending → Result ℕ Fault
-ended (ends p) = Ok p
-ended (stops f) = Err f
-
--- code points given to a sink in UTF-8: all of them, and then the ending is told; or up to the first byte that is refused
-pub data Copies {S : Type 0} (held : S → List ℕ) (takes : S → ℕ → Bool) : S → List ℕ → Ending → Result ℕ Fault → S → Type 0 where
-  whole : {s s′ : S} {cs : List ℕ} {e : Ending} → Emits held takes s (bytesOf cs) (Ok tt) s′ → Copies held takes s cs e (ended e) s′
-  cut : {s s′ : S} {cs : List ℕ} {e : Ending} {f : Fault} → Emits held takes s (bytesOf cs) (Err f) s′ → Copies held takes s cs e (Err f) s′

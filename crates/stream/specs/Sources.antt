@@ -53,3 +53,8 @@ endingAt last (Some p) = stops (IllFormed p)
 
 abbrev pub byteEnding : ℕ → List ℕ → Ending
 byteEnding i bs = endingAt (i + length bs) (illFormedFrom 0 i bs)
+
+-- an ending as the answer of a call that reads to it: the end's place, or the fault
+abbrev pub ended : Ending → Result ℕ Fault
+ended (ends p) = Ok p
+ended (stops f) = Err f

@@ -1,10 +1,8 @@
 //! Bytes given to a sink one after another, up to the first that it refuses.
-ghost use Rattle.codepoint.specs.Utf8.{codePointsOf, utf8};
-ghost use Rattle.stream.specs.Sinks.{Copies, Emits, Outcome};
+ghost use Rattle.codepoint.specs.Utf8.{utf8};
+ghost use Rattle.stream.specs.Sinks.{Emits, Outcome};
 use refusal::Fault;
 use crate::sink::Sink;
-use crate::source::Source;
-use crate::source::Step;
 use codepoint::utf8::encode;
 
 /// Gives the bytes to the sink, and stops at the first refused one.
@@ -25,18 +23,4 @@ pub fn emit_code_point<S: Sink>(sink: &mut S, c: u32) -> Result<(), Fault>
 {
     let encoded = encode(c);
     emit(sink, encoded.as_slice())
-}
-
-/// Gives all code points of a source to a sink, in UTF-8, and answers the end's place. Stops at the first refused
-/// byte, or at the source's fault.
-pub fn copy<P: Source, S: Sink>(source: &mut P, sink: &mut S) -> Result<usize, Fault>
-    ensures copies { λ r. ⌜ Copies (S·Sink .held) (S·Sink .takes) (now (sink .entry)) (codePointsOf (P·Source .ahead (now (source .entry)))) (P·Source .ending (now (source .entry))) r (now (sink .exit)) ⌝ }
-{
-    loop {
-        let step = source.next()?;
-        match step {
-            Step::Point((c, _)) => emit_code_point(sink, c)?,
-            Step::End(place) => return Ok(place),
-        }
-    }
 }

@@ -20,7 +20,6 @@ pub use buffer::BufferSink;
 pub use buffer::SinkOfBuffer;
 pub use comparing::ComparingSink;
 pub use comparing::SinkOfComparing;
-pub use emission::copy;
 pub use emission::emit;
 pub use emission::emit_code_point;
 pub use octets::ByteSource;
