@@ -1,6 +1,4 @@
-// Sinks at their limits, and the program's refusals.
-use program::INPUT_LIMIT;
-use program::rewrite;
+// Sinks at their limits, and how refusals are shown.
 use std::test::*;
 use stream::BufferSink;
 use stream::ComparingSink;
@@ -33,18 +31,6 @@ fn comparing_at_a_wrong_byte_and_past_the_end() -> Result<(), Fail> {
     check_eq(sink.take(99), Ok(()))?;
     check(sink.is_complete())?;
     check_eq(sink.take(99), Err(Fault::NotTaken(3)))
-}
-
-#[test]
-fn sheet_that_is_too_long(rt: LibcRuntime) -> Result<(), Fail> {
-    let heap = rt.alloc();
-    // the length is refused before the ill-formed bytes are met
-    let sheet = vec![in heap; 0xffu8; INPUT_LIMIT + 1]?;
-    let mut sink = BufferSink::new(heap, 4)?;
-    check_eq(rewrite(sheet.as_slice(), &mut sink), Err(Fault::TooLong(32768)))?;
-    check_eq(sink.bytes().len(), 0)?;
-    check_eq(rewrite(b"ab\xff", &mut sink), Err(Fault::IllFormed(2)))?;
-    check_eq(sink.bytes(), b"ab")
 }
 
 #[test]

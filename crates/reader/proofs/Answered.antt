@@ -19,8 +19,8 @@ use Rattle.stream.specs.Sources.Ending.{ends, stops}
 use Rattle.stream.specs.Sources.{ended}
 use Rattle.syntax.specs.Kinds.{isBadKind}
 use Rattle.syntax.specs.Bodies.{pastComments}
-use Rattle.syntax.specs.Reading.{Found, Next as Reached, next, nextAt, tokenOf}
-use Rattle.syntax.specs.Reading.Next.{end, token}
+use Rattle.syntax.specs.Reading.{Found, next, nextAt, tokenOf}
+use Rattle.syntax.specs.Reading.Next.{token}
 use Rattle.syntax.specs.Extents.{before, taken, takenAt, collected, collectedAt}
 use Rattle.scan.specs.declared.fill.Fill.{Fill}
 use Rattle.scan.specs.declared.lookahead.Peek.{Peek}

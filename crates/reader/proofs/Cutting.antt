@@ -1,6 +1,6 @@
 -- The rest that a token leaves is an end of the list, and only a dimension has a unit.
 use mathlib.Core.Path.{_≡_, refl, sym, ap, _∙_}
-use mathlib.Core.Bool.{Bool, true, false, cond}
+use mathlib.Core.Bool.{Bool, true, false}
 use mathlib.Core.List.{List, [], _∷_}
 use Prim.Native.Nat.{ℕ, zero, suc, _+_, _-_}
 use native.Mathlib.Omega.{arith}
@@ -15,9 +15,9 @@ use Rattle.syntax.specs.Points.{newline, percent, leftParen, rightParen}
 use Rattle.syntax.specs.Rules.{Step, left, leaves, collect, beyond}
 use Rattle.syntax.specs.Rules.Step.{halt, give}
 use Rattle.syntax.specs.Escapes.{inIdent}
-use Rattle.syntax.specs.Bodies.{while, inComments, inString, inUrl, inRemnants, inExtraWhitespace, pastComments, pastWhitespace}
-use Rattle.syntax.specs.Numbers.{numberAt, part, partIfAny, withFraction, withExponent, signLength, fractionLength, exponentLength}
-use Rattle.syntax.specs.Reading.{Branch, Found, branch, found, foundAt, foundBare, foundBy, identComes, identLikeAt, endName, isUrl, urlOrFunction, quoteComes, urlAt, endUrl, numericAt, endNumber, stringAt, endString, signAt, signKind, next, nextAt}
+use Rattle.syntax.specs.Bodies.{while, inString, inUrl, inRemnants, inExtraWhitespace, pastWhitespace}
+use Rattle.syntax.specs.Numbers.{numberAt, part, partIfAny, withFraction, signLength, fractionLength, exponentLength}
+use Rattle.syntax.specs.Reading.{Branch, Found, branch, found, foundAt, foundBare, foundBy, identComes, identLikeAt, endName, isUrl, urlOrFunction, quoteComes, urlAt, endUrl, numericAt, endNumber, stringAt, endString, signAt, signKind}
 use Rattle.syntax.specs.Reading.Branch.{whitespace, quote, hash, at, number, cdc, cdo, name, sign}
 use Rattle.scan.proofs.States.{drop-drop}
 use Rattle.reader.proofs.Answered.{drop-exactly}

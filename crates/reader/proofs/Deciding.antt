@@ -1,10 +1,8 @@
 -- What the first code points decide, by the tests that the code makes.
 use mathlib.Core.Path.{_≡_, refl, sym, ap, subst, _∙_}
-use mathlib.Core.Bool.{Bool, true, false, cond, _&&_, _||_}
+use mathlib.Core.Bool.{Bool, true, false, cond}
 use mathlib.Core.List.{List, [], _∷_}
 use Prim.Native.Nat.{ℕ}
-use native.Mathlib.Omega.{arith}
-use lib.Dec.{eqb}
 use lib.ListN.{drop, getD}
 use Rattle.std.proofs.shelf.Tests.{both-ways, ne-eqb}
 use Rattle.codepoint.specs.Classes.{isIdentStart, isLetter, isDigit, isWhitespace}

@@ -1,6 +1,6 @@
 -- The name of an ident-like token, held back until it is known whether it goes into the cells.
-use mathlib.Core.Path.{_≡_, refl, sym, ap, subst, _∙_}
-use mathlib.Core.Bool.{Bool, true, false, _&&_, _||_}
+use mathlib.Core.Path.{_≡_, refl, sym, ap, _∙_}
+use mathlib.Core.Bool.{true, false, _&&_, _||_}
 use mathlib.Core.List.{List, [], _∷_, _++_, append-nil, append-assoc}
 use Prim.Native.Nat.{ℕ, suc, _+_}
 use native.Mathlib.Omega.{arith}
@@ -16,7 +16,7 @@ use Rattle.stream.specs.Sources.Ending.{ends}
 use Rattle.syntax.specs.declared.kind.Kind.the-variants.{Function, Ident}
 use Rattle.syntax.specs.Points.{leftParen}
 use Rattle.syntax.specs.Rules.{collect, beyond}
-use Rattle.syntax.specs.Rules.Step.{halt, give}
+use Rattle.syntax.specs.Rules.Step.{halt}
 use Rattle.syntax.specs.Escapes.{inIdent, escape}
 use Rattle.syntax.specs.Bodies.{inExtraWhitespace, isQuote, pastWhitespace}
 use Rattle.syntax.specs.Reading.{found, isUrl, quoteComes, urlAt, urlOrFunction, endName, identLikeAt}
@@ -24,9 +24,9 @@ use Rattle.scan.specs.declared.fill.Fill.{Fill}
 use Rattle.scan.specs.declared.lookahead.Peek.{Peek}
 use Rattle.scan.specs.Ahead.{Ahead, Left, codes, past, peeked}
 use Rattle.scan.specs.Fills.{Collects, onto, empty, filled, laid}
-use Rattle.scan.proofs.States.{Gives, given-first, turn-out, turn-left, stop-out, stop-left, past-one, past-past, codes-past, left-all, left-past, left-said, left-then}
-use Rattle.scan.proofs.Turns.{collects-then, nothing-collected}
-use Rattle.scan.proofs.Arms.{first-is, second-is, name-one, name-escape, name-stop}
+use Rattle.scan.proofs.States.{Gives, given-first, turn-out, turn-left, stop-out, stop-left, past-one, past-past, codes-past, left-all, left-said, left-then}
+use Rattle.scan.proofs.Turns.{collects-then}
+use Rattle.scan.proofs.Arms.{name-one, name-escape, name-stop}
 use Rattle.reader.specs.declared.held.Held.{Held}
 use Rattle.reader.specs.declared.read.Read.{Read}
 use Rattle.reader.specs.Reads.{Reads, opensQuote}

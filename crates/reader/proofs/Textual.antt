@@ -1,13 +1,12 @@
 -- Tokens with a text.
 use mathlib.Core.Path.{_≡_, refl, sym, ap, subst, _∙_}
 use mathlib.Core.Bool.{Bool, true, false, cond}
-use mathlib.Core.List.{List, [], _∷_, _++_, append-nil}
-use Prim.Native.Nat.{ℕ, suc}
+use mathlib.Core.List.{List, [], _∷_, append-nil}
+use Prim.Native.Nat.{ℕ}
 use native.Mathlib.Omega.{arith}
 use lib.Dec.{eqb}
 use lib.ListN.{drop, getD, length}
 use Rattle.std.proofs.shelf.Tests.{ne-eqb, eq-eqb}
-use Rattle.codepoint.specs.Classes.{isWhitespace}
 use Rattle.codepoint.specs.Starts.{startsIdent}
 use Rattle.syntax.specs.declared.kind.Kind.{Kind}
 use Rattle.syntax.specs.declared.kind.Kind.the-variants.{AtKeyword, BadString, BadUrl, Delim, Dimension, Hash, Number, Percentage, QuotedString, Url}

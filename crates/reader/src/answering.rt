@@ -26,7 +26,8 @@ pub fn answer_next<L: Lookahead>(input: &mut L, cells: &mut [u32]) -> Result<Nex
     }
     let read = read_token(input, cells);
     let behind = input.peek();
-    if read.all.outgrown {
+    let outgrown = read.all.outgrown;
+    if outgrown {
         return Err(Fault::Outgrown(seen.place));
     }
     let token = Next::Token(locate(read, seen.place));

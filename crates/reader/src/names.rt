@@ -5,7 +5,6 @@ ghost use Rattle.scan.specs.Ahead.{codes};
 ghost use Rattle.syntax.specs.Bodies.{inExtraWhitespace};
 ghost use Rattle.syntax.specs.Reading.{identLikeAt, urlOrFunction};
 ghost use Rattle.syntax.specs.Rules.{beyond};
-ghost use mathlib.Core.Path.{_≡_};
 use crate::held::Held;
 use crate::held::opens_url;
 use crate::held::put_held;

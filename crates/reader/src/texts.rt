@@ -2,7 +2,6 @@
 ghost use Rattle.reader.specs.Reads.{Reads, atFound, hashFound};
 ghost use Rattle.scan.specs.Ahead.{codes};
 ghost use Rattle.syntax.specs.Reading.{nameAt, numericAt, stringAt, urlAt};
-ghost use mathlib.Core.Path.{_≡_};
 use crate::read::EMPTY;
 use crate::read::Read;
 use crate::read::bare;

@@ -1,8 +1,8 @@
 -- What each rule says, by the tests that the loops make on the next code points. Past the end of a list stands 0.
 use mathlib.Core.Path.{_≡_, refl, sym, ap, _∙_}
 use mathlib.Core.Bool.{Bool, true, false, _&&_, _||_}
-use mathlib.Core.List.{List, [], _∷_, _++_}
-use Prim.Native.Nat.{ℕ, zero, suc, _+_, _<_, _≤_}
+use mathlib.Core.List.{List, [], _∷_}
+use Prim.Native.Nat.{ℕ, suc, _+_, _<_, _≤_}
 use native.Mathlib.Omega.{arith}
 use lib.Dec.{eqb}
 use lib.ListN.{drop, getD, length}
@@ -14,8 +14,8 @@ use Rattle.codepoint.specs.Starts.{isValidEscape}
 use Rattle.stream.specs.Preprocess.{Placed}
 use Rattle.syntax.specs.Points.{newline}
 use Rattle.syntax.specs.Rules.{Step, collect}
-use Rattle.syntax.specs.Rules.Step.{halt, give}
-use Rattle.syntax.specs.Escapes.{inIdent, escape, gave}
+use Rattle.syntax.specs.Rules.Step.{halt}
+use Rattle.syntax.specs.Escapes.{inIdent, escape}
 use Rattle.syntax.specs.Bodies.{while, inString, inUrl, inRemnants, inComment, inComments, inExtraWhitespace, endsUrl}
 use Rattle.scan.specs.declared.lookahead.Peek.{Peek}
 use Rattle.scan.specs.Ahead.{Ahead, EndsAtZero, codes, past, peeked}

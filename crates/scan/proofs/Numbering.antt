@@ -1,21 +1,17 @@
 -- The parts of a number.
 use mathlib.Core.Path.{_≡_, refl, sym, ap, _∙_}
-use mathlib.Core.Bool.{Bool, true, false, cond, _||_}
-use mathlib.Core.List.{List, [], _∷_, _++_, append-nil, append-assoc}
+use mathlib.Core.Bool.{Bool, true, false, cond}
+use mathlib.Core.List.{List, [], _∷_, _++_, append-nil}
 use Prim.Native.Nat.{ℕ, zero, suc, _≤_}
 use native.Mathlib.Omega.{arith}
-use lib.Dec.{eqb}
 use lib.ListN.{drop, take, getD, length}
 use Rattle.std.proofs.shelf.Ways.{tells}
 use Rattle.codepoint.specs.Classes.{isDigit}
-use Rattle.syntax.specs.Rules.{collect, beyond}
-use Rattle.syntax.specs.Bodies.{while}
 use Rattle.syntax.specs.Numbers.{digits, pastDigits, isSign, signLength, fractionLength, exponentLength, part, partIfAny, withFraction, withExponent, numberAt}
 use Rattle.scan.specs.declared.fill.Fill.{Fill}
 use Rattle.scan.specs.declared.lookahead.Peek.{Peek}
-use Rattle.scan.specs.Ahead.{Ahead, codes, past, peeked}
+use Rattle.scan.specs.Ahead.{Ahead, codes, peeked}
 use Rattle.scan.specs.Fills.{Collects}
-use Rattle.scan.proofs.States.{left-past}
 use Rattle.scan.proofs.Turns.{collects-then, collects-said, nothing-collected}
 use Rattle.scan.proofs.Arms.{first-is, second-is}
 

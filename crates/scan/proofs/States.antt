@@ -73,9 +73,6 @@ left-then {w} a b = record {
 pub left-said : {w w′ : Ahead} {r s : List ℕ} → r ≡ s → Left w r w′ → Left w s w′
 left-said e a = record { count = a .count; passed = a .passed; rest-is = a .rest-is ∙ e }
 
-pub left-from : {w v w′ : Ahead} {r : List ℕ} → w ≡ v → Left w r w′ → Left v r w′
-left-from e a = record { count = a .count; passed = a .passed ∙ ap (past (a .count)) e; rest-is = a .rest-is }
-
 -- a rule gives something at the front of a list
 pub record Gives {B : Type 0} (f : List ℕ → Step B) (s : List ℕ) (v : List B) (k : ℕ) : Type 0 where
   pub some : 0 < length s

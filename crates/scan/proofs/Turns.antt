@@ -4,7 +4,7 @@ use mathlib.Core.List.{List, [], _∷_, _++_}
 use Prim.Native.Nat.{ℕ, suc, _+_, _<_}
 use lib.ListN.{drop, length, set, length-set}
 use Rattle.syntax.specs.Rules.{Step, collect, beyond}
-use Rattle.syntax.specs.Rules.Step.{halt, give}
+use Rattle.syntax.specs.Rules.Step.{halt}
 use Rattle.syntax.specs.Escapes.{escape}
 use Rattle.scan.specs.declared.fill.Fill.{Fill}
 use Rattle.scan.specs.Ahead.{Ahead, Left, codes, past}
@@ -66,12 +66,6 @@ module _ (f : List ℕ → Step ℕ) where
     pub same-cells : laid cells fill (collect f (codes s)) ≡ laid cells0 fill0 (collect f (codes s0))
     pub same-fill : filled (length cells) fill (collect f (codes s)) ≡ filled (length cells0) fill0 (collect f (codes s0))
     pub skipped : Skipped s0 s
-
-  pub skip-start : (s : Ahead) → Skipped s s
-  skip-start s = record { count = 0; passed = refl; same-left = refl }
-
-  pub start : (cells : List ℕ) (fill : Fill) (s : Ahead) → Sofar cells fill s cells fill s
-  start cells fill s = record { same-cells = refl; same-fill = refl; skipped = skip-start s }
 
   module _ (s0 s : Ahead) (h : Skipped s0 s) where
     pub skip-turn : (v : List ℕ) (k : ℕ) → Gives f (codes s) v k → (s′ : Ahead) → s′ ≡ past (suc k) s → Skipped s0 s′ × (length (s′ .list) < length (s .list))

@@ -1,6 +1,6 @@
 -- The window in front of the preprocessing layer.
 use mathlib.Core.Path.{_≡_, refl, sym, ap, subst, _∙_}
-use mathlib.Core.Bool.{Bool, true, false, cond, _&&_, _||_}
+use mathlib.Core.Bool.{Bool, true, false, cond, _&&_}
 use mathlib.Core.List.{List, [], _∷_}
 use Prim.Native.Nat.{ℕ, zero, suc, _<_, _≤_}
 use native.Mathlib.Omega.{arith}
@@ -8,10 +8,10 @@ use lib.Dec.{eqb}
 use lib.ListN.{drop, getD, length}
 use Rattle.std.proofs.shelf.Ways.{tells}
 use Rattle.std.specs.declared.result.Result.{Result}
-use Rattle.std.specs.declared.result.Result.the-variants.{Ok, Err}
+use Rattle.std.specs.declared.result.Result.the-variants.{Ok}
 use Rattle.codepoint.specs.Utf8.{codePointsOf}
 use Rattle.stream.specs.declared.source.Step.{Step}
-use Rattle.stream.specs.declared.source.Step.the-variants.{Point, End}
+use Rattle.stream.specs.declared.source.Step.the-variants.{Point}
 use Rattle.refusal.specs.declared.fault.Fault.{Fault}
 use Rattle.stream.specs.Preprocess.{Placed, behind, replaced}
 use Rattle.stream.specs.Sources.{Ending, Hands, told}
@@ -42,9 +42,6 @@ cell-stands zero l s h = absurd (omega arith)
 cell-stands (suc x) l s h = refl
 
 -- a cell is topped up
-pub stays : (x : Placed) (ps : List Placed) → (x .0 ≡ 0 → ⊥) → Topped x ps x ps
-stays x ps h = record { split = refl; kept = λ _. (refl, refl); last = λ e. absurd (h e) }
-
 none-told : (e : Ending) → cellOf (told e) ≡ (0, 0)
 none-told (ends p) = refl
 none-told (stops f) = refl

@@ -1,6 +1,6 @@
 -- What is ahead of a reader, and what is left of it later.
 use mathlib.Core.Path.{_≡_}
-use mathlib.Core.List.{List, [], _∷_}
+use mathlib.Core.List.{List, []}
 use Prim.Native.Nat.{ℕ, _≤_}
 use lib.ListN.{getD, drop, length}
 use Rattle.codepoint.specs.Utf8.{codePointsOf}

@@ -1,29 +1,37 @@
-//! One sheet on its whole way: decoded, preprocessed, written, compared, and a damaged copy refused.
-use codepoint::utf8::Decoded;
-use codepoint::utf8::decode;
+//! One sheet on its whole way: read into tokens, normalized, normalized again, written by other calls, and refused where
+//! it is damaged.
+use normal::Compared;
+use normal::compare;
+use program::Formed;
 use program::OUTPUT_CELLS;
-use program::rewrite;
+use program::TEXT_CELLS;
+use program::normal_form;
+use reader::Next;
+use reader::Reader;
+use reader::view;
+use refusal::Fault;
+use refusal::FaultDisplay;
+use std::alloc::AllocError;
+use std::alloc::Global;
 use std::error::AnyError;
+use stream::ArraySource;
 use stream::BufferSink;
 use stream::ByteSource;
 use stream::ComparingSink;
-use refusal::Fault;
-use refusal::FaultDisplay;
-use stream::Preprocess;
+use stream::Sink;
 use stream::SinkOfBuffer;
 use stream::SinkOfComparing;
-use stream::Source;
+use stream::SourceOfArray;
 use stream::SourceOfBytes;
-use stream::SourceOfPreprocess;
-use stream::Step;
+use syntax::kind::Kind;
+use syntax::kind::KindDebug;
+use syntax::token::Token;
+use writer::Call;
+use writer::Writer;
 
-// A hotel's sheet from an old editor: three kinds of line ends, a NUL, and names that are not ASCII.
+// A hotel's sheet from an old editor: a media query that rests on a comment, an escape, a url, and CR LF line ends.
 const SHEET: &'static [u8] =
-    b".caf\xc3\xa9 {\r\n  width: 9px;\r}\x0c.\xe5\xaf\xbf\x00 {}\r\n\r\n";
-
-// The same sheet with one byte of its second name lost to another.
-const DAMAGED: &'static [u8] =
-    b".caf\xc3\xa9 {\r\n  width: 9px;\r}\x0c.\xe5A\xbf\x00 {}\r\n\r\n";
+    b"@media screen and/**/(min-width:40em){\r\n  .caf\\e9 {background:url( 'a.png' )}\r\n}\r\n";
 
 fn main(rt: LibcRuntime) -> Result<(), AnyError> {
     rt.report(tour(&rt))
@@ -31,86 +39,156 @@ fn main(rt: LibcRuntime) -> Result<(), AnyError> {
 
 fn tour(rt: &LibcRuntime) -> Result<(), AnyError> {
     let bytes = SHEET.len();
-    println!(rt, "The sheet has {bytes} bytes.")?;
-    match count(ByteSource::new(SHEET), bytes) {
-        Ok(points) => println!(rt, "Decoded, it has {points} code points.")?,
-        Err(fault) => println!(rt, "Decoding was refused: {fault}.")?,
-    }
-    println!(rt, "Preprocessing changes:")?;
-    show_changes(rt)?;
-    match count(Preprocess::new(ByteSource::new(SHEET)), bytes) {
-        Ok(points) => println!(rt, "Preprocessed, it has {points} code points.")?,
-        Err(fault) => println!(rt, "Preprocessing was refused: {fault}.")?,
-    }
-    write_and_compare(rt)?;
-    refuse(rt)
+    println!(rt, "The sheet has {bytes} bytes. Its tokens:")?;
+    show_tokens(rt)?;
+    show_normal_form(rt)?;
+    compare_calls(rt)?;
+    write_block(rt)?;
+    println!(rt, "Refused:")?;
+    show_refusal(rt, "a bad url", b"a{b:url(i j)}")?;
+    show_refusal(rt, "a byte that is no UTF-8", b"a;;;\xff")
 }
 
-/// How many code points a source hands over before its end, of at most so many.
-fn count<S: Source + Drop>(mut source: S, most: usize) -> Result<usize, Fault> {
-    for points in 0..most {
-        if let Step::End(_) = source.next()? {
-            return Ok(points);
-        }
-    }
-    Ok(most)
-}
-
-/// Prints each code point that preprocessing replaced, with its place.
-fn show_changes(rt: &LibcRuntime) -> Result<(), AnyError> {
-    let mut source = Preprocess::new(ByteSource::new(SHEET));
-    for _ in 0..SHEET.len() {
-        let Ok(Step::Point((new, place))) = source.next() else {
-            break;
-        };
-        let Some(rest) = SHEET.get(place..) else {
-            break;
-        };
-        match decode(rest) {
-            Decoded::Point(old, _) if old == new => {}
-            Decoded::Point(old, _) => {
-                let joined = if rest.starts_with(b"\r\n") { " with its U+000A" } else { "" };
-                println!(rt, "  at {place}: U+{old:04X}{joined} became U+{new:04X}")?;
+/// Prints each token of the sheet with its place, its kind and its text.
+fn show_tokens(rt: &LibcRuntime) -> Result<(), AnyError> {
+    let mut cells = [0u32; 16];
+    let mut reader = Reader::new(ByteSource::new(SHEET));
+    for _ in 0..=SHEET.len() {
+        match reader.next_token(&mut cells) {
+            Ok(Next::Token(found)) => {
+                let place = found.place;
+                let kind = found.kind;
+                let words = in_words(rt.alloc(), view(found, &cells))?;
+                println!(rt, "  at {place}: {kind:?}{words}")?;
             }
-            _ => {}
+            Ok(Next::End(place)) => return Ok(println!(rt, "  at {place}: the end")?),
+            Err(fault) => return Ok(println!(rt, "  {fault}")?),
         }
     }
     Ok(())
 }
 
-/// Writes the sheet into a buffer, and again into a sink that compares with what the buffer holds.
-fn write_and_compare(rt: &LibcRuntime) -> Result<(), AnyError> {
-    let mut output = BufferSink::new(rt.alloc(), OUTPUT_CELLS)?;
-    if let Err(fault) = rewrite(SHEET, &mut output) {
-        return Ok(println!(rt, "Writing was refused: {fault}.")?);
+/// A token's mark, text and unit, each behind a space, as far as it has them.
+fn in_words(heap: Global, token: Token<'_>) -> Result<String, AllocError> {
+    let mut words = String::new(heap);
+    if token.mark != 0 {
+        push_text(&mut words, &[token.mark])?;
     }
-    let written = output.bytes().len();
-    println!(rt, "Written as UTF-8, it has {written} bytes.")?;
-    let mut comparing = ComparingSink::new(output.bytes());
-    match rewrite(SHEET, &mut comparing) {
-        Ok(_) if comparing.is_complete() => {
-            println!(rt, "A comparing sink over those bytes took all of them.")?
-        }
-        Ok(_) => println!(rt, "A comparing sink over those bytes was left waiting for more.")?,
-        Err(fault) => println!(rt, "A comparing sink over those bytes refused: {fault}.")?,
+    if !token.text.is_empty() {
+        push_text(&mut words, token.text)?;
+    }
+    if !token.unit.is_empty() {
+        push_text(&mut words, token.unit)?;
+    }
+    Ok(words)
+}
+
+fn push_text(words: &mut String, text: &[u32]) -> Result<(), AllocError> {
+    words.push(' ')?;
+    for c in text {
+        words.push(char::from_u32(*c).unwrap_or('?'))?;
     }
     Ok(())
 }
 
-/// Writes a damaged copy, and writes the sheet into a buffer that is too small.
-fn refuse(rt: &LibcRuntime) -> Result<(), AnyError> {
-    let mut output = BufferSink::new(rt.alloc(), OUTPUT_CELLS)?;
-    match rewrite(DAMAGED, &mut output) {
-        Ok(_) => println!(rt, "The damaged copy was written.")?,
-        Err(fault) => {
-            let written = output.bytes().len();
-            println!(rt, "The damaged copy was refused: {fault}; {written} bytes were written before it.")?
+/// Normalizes the sheet, and its normal form once more against itself.
+fn show_normal_form(rt: &LibcRuntime) -> Result<(), AnyError> {
+    let mut cells = [0u32; TEXT_CELLS];
+    let output = BufferSink::new(rt.alloc(), OUTPUT_CELLS)?;
+    let Formed { sink, answer } = normal_form(SHEET, output, &mut cells);
+    match answer {
+        Ok((tokens, comments)) => {
+            println!(rt, "Normalized: {tokens} tokens, comments between them: {comments}.")?
         }
+        Err(fault) => return Ok(println!(rt, "Normalizing was refused: {fault}.")?),
     }
-    let mut small = BufferSink::new(rt.alloc(), 10)?;
-    match rewrite(SHEET, &mut small) {
-        Ok(_) => println!(rt, "Ten cells were enough.")?,
-        Err(fault) => println!(rt, "A buffer of ten cells refused: {fault}.")?,
+    show_bytes(rt, sink.bytes())?;
+    let again = normal_form(sink.bytes(), ComparingSink::new(sink.bytes()), &mut cells);
+    let same = again.answer.is_ok() && again.sink.is_complete();
+    println!(rt, "Normalized again, no byte changed: {same}.")?;
+    Ok(())
+}
+
+fn show_bytes(rt: &LibcRuntime, bytes: &[u8]) -> Result<(), AnyError> {
+    let count = bytes.len();
+    match std::str::from_utf8(bytes) {
+        Ok(text) => println!(rt, "  {text} ({count} bytes)")?,
+        Err(_) => println!(rt, "  {count} bytes")?,
+    }
+    Ok(())
+}
+
+fn sign(kind: Kind) -> Token<'static> {
+    Token { kind, mark: 0, text: &[], unit: &[] }
+}
+
+fn ident(text: &[u32]) -> Token<'_> {
+    Token { kind: Kind::Ident, mark: 0, text, unit: &[] }
+}
+
+// `and` and `x` as code points.
+const AND: &'static [u32] = &[0x61, 0x6e, 0x64];
+const X: &'static [u32] = &[0x78];
+
+/// Two lists of calls that accept the same tokens, by other calls and with other refusals on the way.
+fn compare_calls(rt: &LibcRuntime) -> Result<(), AnyError> {
+    let puts = [
+        Call::Put(ident(AND)),
+        Call::Put(sign(Kind::OpenRound)),
+        Call::Put(sign(Kind::Whitespace)),
+        Call::Put(sign(Kind::Whitespace)),
+        Call::Put(ident(X)),
+        Call::Put(sign(Kind::CloseRound)),
+        Call::Finish,
+    ];
+    let blocks = [
+        Call::Put(ident(AND)),
+        Call::Open(sign(Kind::OpenRound)),
+        Call::Put(sign(Kind::Whitespace)),
+        Call::Put(ident(X)),
+        Call::Finish,
+        Call::Close(1, 21),
+        Call::Finish,
+    ];
+    let left = BufferSink::new(rt.alloc(), 64)?;
+    let right = BufferSink::new(rt.alloc(), 64)?;
+    let Compared { left, right, finished } =
+        compare::<ByteSource<'_>, ArraySource<'_>, BufferSink, BufferSink>(left, &puts, right, &blocks);
+    println!(rt, "Two lists of calls that share their accepted tokens; both finished: {finished}.")?;
+    let left = left.into_sink();
+    let right = right.into_sink();
+    show_bytes(rt, left.bytes())?;
+    show_bytes(rt, right.bytes())
+}
+
+/// A block, opened and closed with its slip, and what the writer counted.
+fn write_block(rt: &LibcRuntime) -> Result<(), AnyError> {
+    let mut writer = Writer::new(BufferSink::new(rt.alloc(), 64)?);
+    match block(&mut writer) {
+        Ok((tokens, comments)) => {
+            println!(rt, "A block: {tokens} tokens, comments between them: {comments}.")?
+        }
+        Err(fault) => println!(rt, "The block was refused: {fault}.")?,
+    }
+    show_bytes(rt, writer.into_sink().bytes())
+}
+
+fn block<S: Sink>(writer: &mut Writer<S>) -> Result<(usize, usize), Fault> {
+    let slip = writer.open(sign(Kind::OpenCurly))?;
+    let first = writer.put(ident(AND));
+    let second = writer.put(ident(X));
+    writer.close(slip)?;
+    first?;
+    second?;
+    writer.finish()
+}
+
+fn show_refusal(rt: &LibcRuntime, what: &str, sheet: &[u8]) -> Result<(), AnyError> {
+    let mut cells = [0u32; TEXT_CELLS];
+    let output = BufferSink::new(rt.alloc(), OUTPUT_CELLS)?;
+    match normal_form(sheet, output, &mut cells).answer {
+        Ok(_) => println!(rt, "  {what}: not refused")?,
+        Err(fault) => println!(rt, "  {what}: {fault}")?,
     }
     Ok(())
 }

@@ -1,4 +1,3 @@
-use mathlib.Core.Path.{_≡_, refl, sym, ap, _∙_}
 use Rattle.reader.proofs.Identifying.{holding}
 use Rattle.reader.proofs.names.hold.Needs as need
 

@@ -1,4 +1,4 @@
-use mathlib.Core.Path.{_≡_, refl, sym, ap, _∙_}
+use mathlib.Core.Path.{sym}
 use Rattle.reader.proofs.Identifying.{begun-plain, begun-escape, begun-none}
 use Rattle.reader.proofs.names.name_one.Needs as need
 

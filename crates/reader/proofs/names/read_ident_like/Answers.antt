@@ -1,4 +1,3 @@
-use mathlib.Core.Path.{_≡_, refl, sym, ap, _∙_}
 use Rattle.reader.proofs.Identifying.{ident-url, ident-function, ident-plain}
 use Rattle.reader.proofs.names.read_ident_like.Needs as need
 

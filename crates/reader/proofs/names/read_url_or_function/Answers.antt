@@ -1,4 +1,4 @@
-use mathlib.Core.Path.{_≡_, refl, sym, ap, _∙_}
+use mathlib.Core.Path.{sym}
 use Rattle.reader.proofs.Identifying.{url-function, url-body}
 use Rattle.reader.proofs.names.read_url_or_function.Needs as need
 

@@ -1,4 +1,4 @@
-use mathlib.Core.Path.{_≡_, refl, sym, ap, _∙_}
+use mathlib.Core.Path.{sym}
 use Rattle.reader.proofs.Textual.{hash-named, hash-loose}
 use Rattle.reader.proofs.texts.read_hash.Needs as need
 

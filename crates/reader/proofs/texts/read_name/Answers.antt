@@ -1,4 +1,3 @@
-use mathlib.Core.Path.{_≡_, refl, sym, ap, _∙_}
 use Rattle.reader.proofs.Textual.{name-reads}
 use Rattle.reader.proofs.texts.read_name.Needs as need
 

@@ -1,4 +1,3 @@
-use mathlib.Core.Path.{_≡_, refl, sym, ap, _∙_}
 use Rattle.reader.proofs.Textual.{string-is-bad, string-ends}
 use Rattle.reader.proofs.texts.read_string.Needs as need
 

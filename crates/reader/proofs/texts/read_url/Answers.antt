@@ -1,4 +1,3 @@
-use mathlib.Core.Path.{_≡_, refl, sym, ap, _∙_}
 use Rattle.reader.proofs.Textual.{url-ended, url-closed, url-is-bad}
 use Rattle.reader.proofs.texts.read_url.Needs as need
 

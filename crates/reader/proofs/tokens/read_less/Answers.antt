@@ -1,4 +1,4 @@
-use mathlib.Core.Path.{_≡_, refl, sym, ap, _∙_}
+use mathlib.Core.Path.{sym}
 use Rattle.reader.proofs.Deciding.{less-cdo, less-sign}
 use Rattle.reader.proofs.tokens.read_less.Needs as need
 

@@ -1,4 +1,4 @@
-use mathlib.Core.Path.{_≡_, refl, sym, ap, _∙_}
+use mathlib.Core.Path.{sym}
 use Rattle.reader.proofs.Deciding.{token-whitespace, token-quote, token-hash, token-at, token-number, token-cdc, token-less, token-name, token-sign}
 use Rattle.reader.proofs.tokens.read_token.Needs as need
 

@@ -1,4 +1,3 @@
-use mathlib.Core.Path.{_≡_, refl, sym, ap, _∙_}
 use Rattle.reader.proofs.Deciding.{three-past}
 use Rattle.reader.proofs.tokens.skip_three.Needs as need
 

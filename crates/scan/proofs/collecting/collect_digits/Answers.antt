@@ -1,4 +1,4 @@
-use mathlib.Core.Path.{_≡_, refl, sym, ap, _∙_}
+use mathlib.Core.Path.{sym, ap, _∙_}
 use Rattle.scan.specs.Ahead.{past}
 use Rattle.syntax.specs.Bodies.{while}
 use Rattle.codepoint.specs.Classes.{isDigit}

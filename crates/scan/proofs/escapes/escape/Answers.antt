@@ -1,4 +1,4 @@
-use mathlib.Core.Path.{_≡_, refl, sym, ap, _∙_}
+use mathlib.Core.Path.{sym, ap, _∙_}
 use Rattle.codepoint.specs.Utf8.{codePointsOf}
 use Rattle.scan.specs.Ahead.{past}
 use Rattle.scan.proofs.Hexes.{escape-at-end, plain-escape, numbered-escape}

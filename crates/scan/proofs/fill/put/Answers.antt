@@ -1,4 +1,4 @@
-use mathlib.Core.Path.{_≡_, refl, sym}
+use mathlib.Core.Path.{refl, sym}
 use Rattle.std.proofs.shelf.Tests.{cond-above}
 use Rattle.scan.proofs.Cells.{set-past}
 use Rattle.scan.proofs.fill.put.Needs as need

@@ -1,4 +1,4 @@
-use mathlib.Core.Path.{_≡_, sym, _∙_}
+use mathlib.Core.Path.{sym, _∙_}
 use Rattle.scan.proofs.Numbering.{whole-unsigned, whole-signed}
 use Rattle.scan.proofs.number.collect_whole.Needs as need
 

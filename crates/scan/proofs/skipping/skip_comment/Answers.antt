@@ -1,6 +1,5 @@
-use mathlib.Core.Path.{_≡_, refl, sym, ap, _∙_}
+use mathlib.Core.Path.{ap, _∙_}
 use Rattle.scan.specs.Ahead.{past}
-use native.Mathlib.Omega.{arith}
 use Rattle.scan.proofs.States.{bump-twice}
 use Rattle.scan.proofs.Arms.{comment-turn, comment-end, comment-close}
 use Rattle.scan.proofs.skipping.skip_comment.Needs as need

@@ -1,5 +1,3 @@
-use mathlib.Core.Path.{_≡_, refl, sym, ap, _∙_}
-use Rattle.scan.specs.Ahead.{past}
 use Rattle.syntax.specs.Bodies.{inComments}
 use Rattle.scan.proofs.States.{bump-twice}
 use Rattle.scan.proofs.Turns.{skip-turn, skip-done}

@@ -1,4 +1,4 @@
-use mathlib.Core.Path.{_≡_, _∙_, ap, sym, subst}
+use mathlib.Core.Path.{_∙_, ap, subst}
 use Rattle.scan.specs.Ahead.{peeked, EndsAtZero}
 use Rattle.scan.specs.Windows.{aheadOf}
 use Rattle.scan.proofs.Windows.{topped-same, topped-tight, three-of, ends-of}

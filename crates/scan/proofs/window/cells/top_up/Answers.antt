@@ -1,4 +1,3 @@
-use mathlib.Core.Path.{sym}
 use Rattle.scan.specs.Windows.{pointsOf}
 use Rattle.scan.proofs.Windows.{behind-has-no-zero, topped-by-next}
 use Rattle.scan.proofs.window.cells.top_up.Needs as need

@@ -1,4 +1,3 @@
-use mathlib.Core.Path.{_≡_, ap, subst}
 use Rattle.scan.proofs.Windows.{nothing-handed, third-is-none}
 use Rattle.scan.proofs.window.cells.LookaheadOfWindow.ending.Needs as need
 
