@@ -47,7 +47,8 @@ second-bounds a b h = record {
   after-e0 = λ e. grind (arith, tells);
   after-ed = λ e. grind (arith, tells);
   after-f0 = λ e. grind (arith, tells);
-  after-f4 = λ e. grind (arith, tells) }
+  after-f4 = λ e. grind (arith, tells);
+}
 
 is-second : (a b : ℕ) → Second a b → isSecond a b ≡ true
 is-second a b s = in-range (lowestAfter a) (highestAfter a) b

@@ -41,9 +41,9 @@ first-point at (b ∷ bs) c k e =
     let one : suc k - 1 ≡ k = omega arith in
     let far : at + 1 + k ≡ at + suc k = omega arith in (
       ap (λ d. pointThen at d (λ skip. pointsFrom skip (at + 1) bs)) e ∙ ap (λ i. (c, at) ∷ pointsFrom i (at + 1) bs) one
-      ∙ ap (λ ps. (c, at) ∷ ps) (skipped-points k (at + 1) bs ∙ ap (λ i. pointsFrom 0 i (drop k bs)) far),
+          ∙ ap (λ ps. (c, at) ∷ ps) (skipped-points k (at + 1) bs ∙ ap (λ i. pointsFrom 0 i (drop k bs)) far),
       ap (λ d. illFormedThen at d (λ skip. illFormedFrom skip (at + 1) bs)) e ∙ ap (λ i. illFormedFrom i (at + 1) bs) one
-      ∙ skipped-ill-formed k (at + 1) bs ∙ ap (λ i. illFormedFrom 0 i (drop k bs)) far,
+          ∙ skipped-ill-formed k (at + 1) bs ∙ ap (λ i. illFormedFrom 0 i (drop k bs)) far,
     )
 
 -- every encoding has at least one byte

@@ -4,12 +4,19 @@ ghost use mathlib.Core.Path.{_≡_};
 
 /// Class numbers. Of the signs with a token kind of their own, the class number is that kind's.
 pub const NEWLINE: u8 = 1;
+
 pub const BLANK: u8 = 2;
+
 pub const HYPHEN: u8 = 3;
+
 pub const DIGIT: u8 = 4;
+
 pub const HEX_LETTER: u8 = 5;
+
 pub const OTHER_LETTER: u8 = 6;
+
 pub const OTHER_IDENT_START: u8 = 7;
+
 pub const NON_PRINTABLE: u8 = 8;
 
 #[rattlefmt::skip]
@@ -36,7 +43,11 @@ const CLASSES: [u8; 256] = [
 pub fn class_of(c: u32) -> u8
     ensures { λ r. ⌜ ClassNumber c r ⌝ }
 {
-    if c < 256 { CLASSES[c as usize] } else { OTHER_IDENT_START }
+    if c < 256 {
+        CLASSES[c as usize]
+    } else {
+        OTHER_IDENT_START
+    }
 }
 
 pub fn is_newline(c: u32) -> bool

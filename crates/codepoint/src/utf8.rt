@@ -86,8 +86,7 @@ fn decode_four(a: u8, rest: &[u8]) -> Decoded
     let high = highest_after(a);
     match rest {
         [b, c, d, ..]
-            if low <= *b && *b <= high && 0x80 <= *c && *c <= 0xbf && 0x80 <= *d && *d <= 0xbf =>
-        {
+            if low <= *b && *b <= high && 0x80 <= *c && *c <= 0xbf && 0x80 <= *d && *d <= 0xbf => {
             let front = (a as u32 - 0xf0) * 64 + (*b as u32 - 0x80);
             let middle = front * 64 + (*c as u32 - 0x80);
             Decoded::Point(middle * 64 + (*d as u32 - 0x80), 4)
@@ -113,7 +112,11 @@ fn is_surrogate(c: u32) -> bool
 pub fn encode(c: u32) -> Encoded
     ensures { λ r. ⌜ take (r .len) (r .bytes) ≡ utf8 c ⌝ }
 {
-    if is_scalar_value(c) { encode_scalar(c) } else { encode_scalar(0xfffd) }
+    if is_scalar_value(c) {
+        encode_scalar(c)
+    } else {
+        encode_scalar(0xfffd)
+    }
 }
 
 fn encode_scalar(c: u32) -> Encoded
@@ -121,18 +124,30 @@ fn encode_scalar(c: u32) -> Encoded
     ensures { λ r. ⌜ take (r .len) (r .bytes) ≡ scalarBytes c ⌝ }
 {
     if c < 0x80 {
-        return Encoded { bytes: [c as u8, 0, 0, 0], len: 1 };
+        return Encoded {
+            bytes: [c as u8, 0, 0, 0],
+            len: 1,
+        };
     }
     let last = trailing(c);
     if c < 0x800 {
-        return Encoded { bytes: [(0xc0 + c / 64) as u8, last, 0, 0], len: 2 };
+        return Encoded {
+            bytes: [(0xc0 + c / 64) as u8, last, 0, 0],
+            len: 2,
+        };
     }
     let third = trailing(c / 64);
     if c < 0x10000 {
-        return Encoded { bytes: [(0xe0 + c / 64 / 64) as u8, third, last, 0], len: 3 };
+        return Encoded {
+            bytes: [(0xe0 + c / 64 / 64) as u8, third, last, 0],
+            len: 3,
+        };
     }
     let second = trailing(c / 64 / 64);
-    Encoded { bytes: [(0xf0 + c / 64 / 64 / 64) as u8, second, third, last], len: 4 }
+    Encoded {
+        bytes: [(0xf0 + c / 64 / 64 / 64) as u8, second, third, last],
+        len: 4,
+    }
 }
 
 /// The trailing byte of the low six bits.
@@ -155,5 +170,4 @@ pub fn utf8_stands()
     ensures well_formed { λ _. ⌜ Well-formed-is-encoded ⌝ }
     ensures back { λ _. ⌜ Decodes-back ⌝ }
     ensures apart { λ _. ⌜ Bytes-tell-apart ⌝ }
-{
-}
+{}

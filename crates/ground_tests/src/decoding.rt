@@ -4,12 +4,12 @@ use codepoint::starts::EOF;
 use codepoint::starts::is_valid_escape;
 use codepoint::starts::starts_ident;
 use codepoint::starts::starts_number;
-use std::test::*;
-use stream::ArraySource;
-use stream::ByteSource;
 use refusal::Fault;
 use refusal::FaultDebug;
 use refusal::FaultPartialEq;
+use std::test::*;
+use stream::ArraySource;
+use stream::ByteSource;
 use stream::Source;
 use stream::SourceOfArray;
 use stream::SourceOfBytes;
@@ -45,7 +45,10 @@ fn ill_formed_in_the_middle() -> Result<(), Fail> {
     // overlong three and four bytes, a surrogate, past U+10FFFF
     check_eq(bytes_end(b"a\xe0\x9f\xbfb"), Err(Fault::IllFormed(1)))?;
     check_eq(bytes_end(b"a\xf0\x8f\xbf\xbfb"), Err(Fault::IllFormed(1)))?;
-    check_eq(bytes_end(b"\xc3\xa9\xed\xa0\x80b"), Err(Fault::IllFormed(2)))?;
+    check_eq(
+        bytes_end(b"\xc3\xa9\xed\xa0\x80b"),
+        Err(Fault::IllFormed(2)),
+    )?;
     check_eq(bytes_end(b"ab\xf4\x90\x80\x80"), Err(Fault::IllFormed(2)))
 }
 
@@ -60,7 +63,10 @@ fn ill_formed_at_the_end() -> Result<(), Fail> {
 #[test]
 fn well_formed_to_the_end() -> Result<(), Fail> {
     check_eq(bytes_end(b""), Ok(Step::End(0)))?;
-    check_eq(bytes_end(b"\xf4\x8f\xbf\xbf\xed\x9f\xbf\xee\x80\x80"), Ok(Step::End(10)))?;
+    check_eq(
+        bytes_end(b"\xf4\x8f\xbf\xbf\xed\x9f\xbf\xee\x80\x80"),
+        Ok(Step::End(10)),
+    )?;
     let mut source = ByteSource::new(b"\xc3\xa9\xf0\x9f\x98\x80");
     check_eq(source.next(), Ok(Step::Point((0xe9, 0))))?;
     check_eq(source.next(), Ok(Step::Point((0x1f600, 2))))?;

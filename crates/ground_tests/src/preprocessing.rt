@@ -1,10 +1,10 @@
 // Carriage returns at the end, doubled and behind a newline; NUL and surrogates.
-use std::test::*;
-use stream::ArraySource;
-use stream::ByteSource;
 use refusal::Fault;
 use refusal::FaultDebug;
 use refusal::FaultPartialEq;
+use std::test::*;
+use stream::ArraySource;
+use stream::ByteSource;
 use stream::Preprocess;
 use stream::Source;
 use stream::SourceOfArray;

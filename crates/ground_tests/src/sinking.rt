@@ -1,11 +1,11 @@
 // Sinks at their limits, and how refusals are shown.
-use std::test::*;
-use stream::BufferSink;
-use stream::ComparingSink;
 use refusal::Fault;
 use refusal::FaultDebug;
 use refusal::FaultDisplay;
 use refusal::FaultPartialEq;
+use std::test::*;
+use stream::BufferSink;
+use stream::ComparingSink;
 use stream::Sink;
 use stream::SinkOfBuffer;
 use stream::SinkOfComparing;
@@ -36,7 +36,16 @@ fn comparing_at_a_wrong_byte_and_past_the_end() -> Result<(), Fail> {
 #[test]
 fn faults_show_number_layer_and_place(rt: LibcRuntime) -> Result<(), Fail> {
     let heap = rt.alloc();
-    check_eq(Fault::BadToken(4).to_string(heap)?.as_str(), "fault 6 writer 4")?;
-    check_eq(Fault::Outgrown(7).to_string(heap)?.as_str(), "fault 3 reader 7")?;
-    check_eq(Fault::Operator(77, 5).to_string(heap)?.as_str(), "fault 77 source 5")
+    check_eq(
+        Fault::BadToken(4).to_string(heap)?.as_str(),
+        "fault 6 writer 4",
+    )?;
+    check_eq(
+        Fault::Outgrown(7).to_string(heap)?.as_str(),
+        "fault 3 reader 7",
+    )?;
+    check_eq(
+        Fault::Operator(77, 5).to_string(heap)?.as_str(),
+        "fault 77 source 5",
+    )
 }

@@ -29,7 +29,9 @@ fn main(rt: LibcRuntime) -> Result<(), AnyError> {
     let heap = rt.alloc();
     let mut sheet = Vec::new(heap);
     // one byte past the limit is enough to tell that the sheet is too long
-    rt.stdin().take(INPUT_LIMIT as u64 + 1).read_to_end(&mut sheet)?;
+    rt.stdin()
+        .take(INPUT_LIMIT as u64 + 1)
+        .read_to_end(&mut sheet)?;
     let mut cells = vec![in heap; 0u32; TEXT_CELLS]?;
     let output = BufferSink::new(heap, OUTPUT_CELLS)?;
     let Formed { sink, answer } = normal_form(sheet.as_slice(), output, cells.as_mut_slice());

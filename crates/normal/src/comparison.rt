@@ -34,7 +34,11 @@ pub fn compare<P: Source, Q: Source, S: Sink, T: Sink>(
     let left = run(left, left_calls);
     let right = run(right, right_calls);
     let finished = left.is_finished() && right.is_finished();
-    Compared { left, right, finished }
+    Compared {
+        left,
+        right,
+        finished,
+    }
 }
 
 /// A new writer over the sink, after these calls.

@@ -32,7 +32,11 @@ pub fn normalize<P: Source, S: Sink>(source: P, sink: S, cells: &mut [u32]) -> N
     let mut reader = Reader::new(source);
     let mut writer = Writer::new(sink);
     let answer = transfer(&mut reader, &mut writer, cells);
-    Normalized { reader, writer, answer }
+    Normalized {
+        reader,
+        writer,
+        answer,
+    }
 }
 
 /// From a reader to a writer, to the end or the first refusal.

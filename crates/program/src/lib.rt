@@ -31,8 +31,18 @@ pub fn normal_form<S: Sink>(sheet: &[u8], sink: S, cells: &mut [u32]) -> Formed<
     ensures { λ r. ⌜ Forms held takes sink (now (sheet .entry)) (now (cells .entry)) (r .answer) (r .sink) (now (cells .exit)) ⌝ }
 {
     if sheet.len() > INPUT_LIMIT {
-        return Formed { sink, answer: Err(Fault::TooLong(INPUT_LIMIT)) };
+        return Formed {
+            sink,
+            answer: Err(Fault::TooLong(INPUT_LIMIT)),
+        };
     }
-    let Normalized { reader: _, writer, answer } = normalize(ByteSource::new(sheet), sink, cells);
-    Formed { sink: writer.into_sink(), answer }
+    let Normalized {
+        reader: _,
+        writer,
+        answer,
+    } = normalize(ByteSource::new(sheet), sink, cells);
+    Formed {
+        sink: writer.into_sink(),
+        answer,
+    }
 }

@@ -9,9 +9,9 @@ use crate::answer::Next;
 use crate::read::Read;
 use crate::tokens::read_token;
 use codepoint::starts::EOF;
+use refusal::Fault;
 use scan::Lookahead;
 use scan::skip_comments;
-use refusal::Fault;
 use syntax::kind::Kind;
 
 /// The next token, the end or a refusal.

@@ -7,11 +7,11 @@
 
 mod answer;
 mod answering;
+mod first_three;
 mod held;
 mod names;
 mod read;
 mod reader;
-mod first_three;
 mod texts;
 mod theorems;
 mod tokens;

@@ -5,11 +5,11 @@ ghost use Rattle.scan.specs.Ahead.{codes};
 ghost use Rattle.syntax.specs.Bodies.{inExtraWhitespace};
 ghost use Rattle.syntax.specs.Reading.{identLikeAt, urlOrFunction};
 ghost use Rattle.syntax.specs.Rules.{beyond};
+use crate::first_three::opens_quote;
 use crate::held::Held;
 use crate::held::opens_url;
 use crate::held::put_held;
 use crate::read::Read;
-use crate::first_three::opens_quote;
 use crate::texts::read_url;
 use codepoint::class::is_ident;
 use codepoint::starts::is_valid_escape;
@@ -35,9 +35,19 @@ pub fn read_ident_like<L: Lookahead>(input: &mut L, cells: &mut [u32]) -> Read
     let then = input.peek();
     if then.first == 0x28 {
         input.bump();
-        return Read { kind: Kind::Function, mark: 0, text, all: text };
+        return Read {
+            kind: Kind::Function,
+            mark: 0,
+            text,
+            all: text,
+        };
     }
-    Read { kind: Kind::Ident, mark: 0, text, all: text }
+    Read {
+        kind: Kind::Ident,
+        mark: 0,
+        text,
+        all: text,
+    }
 }
 
 /// Behind the `(` of a function named url: the function where a quote comes, else a url.
@@ -48,7 +58,12 @@ fn read_url_or_function<L: Lookahead>(input: &mut L, held: Held, cells: &mut [u3
     let seen = input.peek();
     if opens_quote(seen.first, seen.second) {
         let text = put_held(cells, held);
-        return Read { kind: Kind::Function, mark: 0, text, all: text };
+        return Read {
+            kind: Kind::Function,
+            mark: 0,
+            text,
+            all: text,
+        };
     }
     skip_whitespace(input);
     read_url(input, cells)
@@ -61,7 +76,11 @@ fn hold<L: Lookahead>(input: &mut L) -> Held
     let first = name_one(input);
     let second = name_one(input);
     let third = name_one(input);
-    Held { first, second, third }
+    Held {
+        first,
+        second,
+        third,
+    }
 }
 
 /// One code point of an identifier, if there is one.

@@ -13,13 +13,21 @@ pub struct Read {
     pub all: Fill,
 }
 
-pub const EMPTY: Fill = Fill { len: 0, outgrown: false };
+pub const EMPTY: Fill = Fill {
+    len: 0,
+    outgrown: false,
+};
 
 /// A token without a text.
 pub fn bare(kind: Kind, mark: u32) -> Read
     ensures { λ r. ⌜ r ≡ bareRead kind mark ⌝ }
 {
-    Read { kind, mark, text: EMPTY, all: EMPTY }
+    Read {
+        kind,
+        mark,
+        text: EMPTY,
+        all: EMPTY,
+    }
 }
 
 /// A sign, or the delim of any other code point.

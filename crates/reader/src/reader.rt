@@ -4,9 +4,9 @@ ghost use mathlib.Core.Path.{_≡_};
 use crate::answer::Next;
 use crate::answer::State;
 use crate::answering::answer_next;
+use refusal::Fault;
 use scan::LookaheadOfWindow;
 use scan::Window;
-use refusal::Fault;
 use stream::Source;
 
 /// Reads the tokens of a source, one at a time.
@@ -21,7 +21,10 @@ impl<S: Source> Reader<S> {
     pub fn new(source: S) -> Reader<S>
         ensures { λ r. ⌜ modelOf (S·Source .ahead) (S·Source .ending) r ≡ begun (S·Source .ahead source) (S·Source .ending source) ⌝ }
     {
-        Reader { window: Window::new(source), state: State::Going }
+        Reader {
+            window: Window::new(source),
+            state: State::Going,
+        }
     }
 
     /// The next token, whose text and unit stand in the cells from the first on; or the end; or a refusal.

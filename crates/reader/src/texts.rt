@@ -23,10 +23,20 @@ pub fn read_string<L: Lookahead>(input: &mut L, quote: u32, cells: &mut [u32]) -
     let text = collect_string(input, quote, cells, EMPTY);
     let seen = input.peek();
     if seen.first == 0x0a {
-        return Read { kind: Kind::BadString, mark: 0, text, all: text };
+        return Read {
+            kind: Kind::BadString,
+            mark: 0,
+            text,
+            all: text,
+        };
     }
     input.bump();
-    Read { kind: Kind::QuotedString, mark: 0, text, all: text }
+    Read {
+        kind: Kind::QuotedString,
+        mark: 0,
+        text,
+        all: text,
+    }
 }
 
 /// A token whose text is an identifier.
@@ -34,7 +44,12 @@ pub fn read_name<L: Lookahead>(input: &mut L, kind: Kind, mark: u32, cells: &mut
     ensures { λ r. ⌜ Reads (now (cells .entry)) (rest (now (input .entry))) (nameAt kind mark (codes (rest (now (input .entry))))) (now (cells .exit)) r (rest (now (input .exit))) ⌝ }
 {
     let text = collect_name(input, cells, EMPTY);
-    Read { kind, mark, text, all: text }
+    Read {
+        kind,
+        mark,
+        text,
+        all: text,
+    }
 }
 
 /// A hash, from behind its `#`.
@@ -67,13 +82,28 @@ pub fn read_number<L: Lookahead>(input: &mut L, cells: &mut [u32]) -> Read
     let seen = input.peek();
     if starts_ident(seen.first, seen.second, seen.third) {
         let all = collect_name(input, cells, text);
-        return Read { kind: Kind::Dimension, mark: 0, text, all };
+        return Read {
+            kind: Kind::Dimension,
+            mark: 0,
+            text,
+            all,
+        };
     }
     if seen.first == 0x25 {
         input.bump();
-        return Read { kind: Kind::Percentage, mark: 0, text, all: text };
+        return Read {
+            kind: Kind::Percentage,
+            mark: 0,
+            text,
+            all: text,
+        };
     }
-    Read { kind: Kind::Number, mark: 0, text, all: text }
+    Read {
+        kind: Kind::Number,
+        mark: 0,
+        text,
+        all: text,
+    }
 }
 
 /// A url, from its first code point that is no whitespace.
@@ -84,13 +114,28 @@ pub fn read_url<L: Lookahead>(input: &mut L, cells: &mut [u32]) -> Read
     skip_whitespace(input);
     let seen = input.peek();
     if seen.first == EOF {
-        return Read { kind: Kind::Url, mark: 0, text, all: text };
+        return Read {
+            kind: Kind::Url,
+            mark: 0,
+            text,
+            all: text,
+        };
     }
     if seen.first == 0x29 {
         input.bump();
-        return Read { kind: Kind::Url, mark: 0, text, all: text };
+        return Read {
+            kind: Kind::Url,
+            mark: 0,
+            text,
+            all: text,
+        };
     }
     skip_remnants(input);
     input.bump();
-    Read { kind: Kind::BadUrl, mark: 0, text, all: text }
+    Read {
+        kind: Kind::BadUrl,
+        mark: 0,
+        text,
+        all: text,
+    }
 }

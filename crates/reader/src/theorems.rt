@@ -6,5 +6,4 @@ use stream::Source;
 /// The function does nothing: its contract says what has been proved.
 pub fn readings_give_the_tokens<S: Source>()
     ensures { λ _. ⌜ Readings-give-the-tokens (S·Source .ahead) (S·Source .ending) ⌝ }
-{
-}
+{}

@@ -11,5 +11,10 @@ pub fn view<'a>(token: Located, cells: &'a [u32]) -> Token<'a>
 {
     let (text, behind) = cells.split_at(token.text.min(cells.len()));
     let (unit, _) = behind.split_at(token.unit.min(behind.len()));
-    Token { kind: token.kind, mark: token.mark, text, unit }
+    Token {
+        kind: token.kind,
+        mark: token.mark,
+        text,
+        unit,
+    }
 }

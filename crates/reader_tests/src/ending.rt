@@ -20,11 +20,23 @@ use syntax::kind::KindDebug;
 use syntax::kind::KindPartialEq;
 
 fn bare(kind: Kind, place: usize) -> Next {
-    Next::Token(Located { kind, mark: 0, text: 0, unit: 0, place })
+    Next::Token(Located {
+        kind,
+        mark: 0,
+        text: 0,
+        unit: 0,
+        place,
+    })
 }
 
 fn ident(text: usize, place: usize) -> Next {
-    Next::Token(Located { kind: Kind::Ident, mark: 0, text, unit: 0, place })
+    Next::Token(Located {
+        kind: Kind::Ident,
+        mark: 0,
+        text,
+        unit: 0,
+        place,
+    })
 }
 
 #[test]

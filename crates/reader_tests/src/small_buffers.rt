@@ -19,7 +19,13 @@ use syntax::kind::KindDebug;
 use syntax::kind::KindPartialEq;
 
 fn token(kind: Kind, text: usize, unit: usize) -> Result<Next, Fault> {
-    Ok(Next::Token(Located { kind, mark: 0, text, unit, place: 0 }))
+    Ok(Next::Token(Located {
+        kind,
+        mark: 0,
+        text,
+        unit,
+        place: 0,
+    }))
 }
 
 // The name of a url goes into no cell, even where none would hold it.
@@ -65,7 +71,16 @@ fn a_dimension() -> Result<(), Fail> {
     let mut three = [7; 3];
     let mut reader = Reader::new(ByteSource::new(b"1em"));
     check_eq(reader.next_token(&mut three), token(Kind::Dimension, 1, 2))?;
-    let dimension = view(Located { kind: Kind::Dimension, mark: 0, text: 1, unit: 2, place: 0 }, &three);
+    let dimension = view(
+        Located {
+            kind: Kind::Dimension,
+            mark: 0,
+            text: 1,
+            unit: 2,
+            place: 0,
+        },
+        &three,
+    );
     check_eq(dimension.text, &[0x31][..])?;
     check_eq(dimension.unit, &[0x65, 0x6d][..])
 }

@@ -67,7 +67,8 @@ pub left-then : {w w′ w″ : Ahead} {r s : List ℕ} → Left w r w′ → Lef
 left-then {w} a b = record {
   count = a .count + b .count;
   passed = b .passed ∙ ap (past (b .count)) (a .passed) ∙ past-past (b .count) (a .count) w;
-  rest-is = b .rest-is }
+  rest-is = b .rest-is;
+}
 
 -- the same in other words
 pub left-said : {w w′ : Ahead} {r s : List ℕ} → r ≡ s → Left w r w′ → Left w s w′

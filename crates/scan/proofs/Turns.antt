@@ -73,7 +73,8 @@ module _ (f : List ℕ → Step ℕ) where
       record {
         count = h .count + suc k;
         passed = e ∙ ap (past (suc k)) (h .passed) ∙ past-past (suc k) (h .count) s0;
-        same-left = turn-left f s s′ v k g e ∙ h .same-left },
+        same-left = turn-left f s s′ v k g e ∙ h .same-left;
+      },
       turn-less f s s′ v k g e,
     )
 

@@ -39,7 +39,12 @@ pub fn collect_name<L: Lookahead>(input: &mut L, cells: &mut [u32], fill: Fill) 
 }
 
 /// A string's text, up to its quote, a newline or the end.
-pub fn collect_string<L: Lookahead>(input: &mut L, quote: u32, cells: &mut [u32], fill: Fill) -> Fill
+pub fn collect_string<L: Lookahead>(
+    input: &mut L,
+    quote: u32,
+    cells: &mut [u32],
+    fill: Fill,
+) -> Fill
     ensures { λ r. ⌜ Collects (now (cells .entry)) fill (rest (now (input .entry))) (collect (inString quote) (codes (rest (now (input .entry))))) (beyond (inString quote) (codes (rest (now (input .entry))))) (now (cells .exit)) r (rest (now (input .exit))) ⌝ }
 {
     let mut fill = fill;

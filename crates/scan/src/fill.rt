@@ -17,8 +17,14 @@ pub fn put(cells: &mut [u32], fill: Fill, c: u32) -> Fill
 {
     if fill.len < cells.len() {
         cells[fill.len] = c;
-        Fill { len: fill.len + 1, outgrown: fill.outgrown }
+        Fill {
+            len: fill.len + 1,
+            outgrown: fill.outgrown,
+        }
     } else {
-        Fill { len: fill.len, outgrown: true }
+        Fill {
+            len: fill.len,
+            outgrown: true,
+        }
     }
 }

@@ -58,7 +58,8 @@ pub preprocessing-settles : Preprocessing-settles
 preprocessing-settles = record {
   cleans = cleans;
   twice-is-once = λ ps h. clean-stays (preprocessed ps) (cleans ps h);
-  clean-stays = clean-stays }
+  clean-stays = clean-stays;
+}
 
 -- one code point at a time comes to the same
 pub behind-is-preprocessed : (ps : List Placed) → behind false ps ≡ preprocessed ps

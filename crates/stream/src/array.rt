@@ -4,9 +4,9 @@ ghost use Rattle.stream.specs.Within.{array-from-source, array-within};
 ghost use lib.Dec.{leb};
 ghost use lib.ListN.{drop};
 ghost use mathlib.Core.Path.{_≡_};
-use refusal::Fault;
 use crate::source::Source;
 use crate::source::Step;
+use refusal::Fault;
 
 /// A place is an index. The first number above U+10FFFF is the ending, fault 1.
 #[derive(Drop)]

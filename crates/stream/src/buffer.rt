@@ -5,8 +5,8 @@ ghost use Rattle.std.specs.Vec.{made};
 ghost use lib.Dec.{ltb};
 ghost use mathlib.Core.List.{[]};
 ghost use mathlib.Core.Path.{_≡_};
-use refusal::Fault;
 use crate::sink::Sink;
+use refusal::Fault;
 use std::alloc::AllocError;
 use std::alloc::Global;
 

@@ -4,8 +4,8 @@ ghost use lib.Dec.{eqb, ltb};
 ghost use lib.ListN.{getD, length, take as front};
 ghost use mathlib.Core.Bool.{_&&_};
 ghost use mathlib.Core.Path.{_≡_};
-use refusal::Fault;
 use crate::sink::Sink;
+use refusal::Fault;
 
 /// Stands over expected bytes, and takes only the one that comes next there.
 #[derive(Drop)]

@@ -1,9 +1,9 @@
 //! Bytes given to a sink one after another, up to the first that it refuses.
 ghost use Rattle.codepoint.specs.Utf8.{utf8};
 ghost use Rattle.stream.specs.Sinks.{Emits, Outcome};
-use refusal::Fault;
 use crate::sink::Sink;
 use codepoint::utf8::encode;
+use refusal::Fault;
 
 /// Gives the bytes to the sink, and stops at the first refused one.
 pub fn emit<S: Sink>(sink: &mut S, bytes: &[u8]) -> Result<(), Fault>

@@ -5,11 +5,11 @@ ghost use Rattle.stream.specs.Sources.{byteEnding};
 ghost use Rattle.stream.specs.Within.{byte-from-source, byte-within};
 ghost use lib.ListN.{drop, length};
 ghost use mathlib.Core.Path.{_≡_};
-use refusal::Fault;
 use crate::source::Source;
 use crate::source::Step;
 use codepoint::utf8::Decoded;
 use codepoint::utf8::decode;
+use refusal::Fault;
 
 /// A place is a byte offset. The first ill-formed sequence is the ending, fault 2 at its first byte.
 #[derive(Drop)]

@@ -2,9 +2,9 @@
 ghost use Rattle.stream.specs.Preprocess.{Preprocessing-settles, behind, preprocessed, replaced};
 ghost use Rattle.stream.specs.Within.{behind-within};
 ghost use mathlib.Core.Path.{_≡_};
-use refusal::Fault;
 use crate::source::Source;
 use crate::source::Step;
+use refusal::Fault;
 
 /// Stands over any source, and is itself a source: U+000D U+000A becomes one newline, any other U+000D and U+000C a
 /// newline, U+0000 and surrogates U+FFFD. All else passes, the ending too.
@@ -20,7 +20,10 @@ impl<S: Source> Preprocess<S> {
         ensures ahead { λ r. ⌜ behind (r .«after_cr») (S·Source .ahead (r .below)) ≡ preprocessed (S·Source .ahead below) ⌝ }
         ensures ending { λ r. ⌜ S·Source .ending (r .below) ≡ S·Source .ending below ⌝ }
     {
-        Preprocess { below, after_cr: false }
+        Preprocess {
+            below,
+            after_cr: false,
+        }
     }
 }
 
@@ -62,5 +65,4 @@ fn replace(c: u32) -> u32
 /// The theorem of preprocessing, held by this function's contract.
 pub fn preprocessing_settles()
     ensures { λ _. ⌜ Preprocessing-settles ⌝ }
-{
-}
+{}

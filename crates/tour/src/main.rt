@@ -1,7 +1,14 @@
-//! One sheet on its whole way: read into tokens, normalized, normalized again, written by other calls, and refused where
-//! it is damaged.
+//! A sheet on its whole way: preprocessed, read into tokens, normalized, normalized again, written by other calls, and
+//! refused where it is damaged.
+ghost use Rattle.syntax.specs.Tokens.{bare, texted, valueOf};
+ghost use Rattle.syntax.specs.declared.kind.Kind.the-variants.{Ident};
+ghost use mathlib.Core.Path.{_≡_};
+
+mod preprocessing;
+
 use normal::Compared;
 use normal::compare;
+use preprocessing::show_preprocessing;
 use program::Formed;
 use program::OUTPUT_CELLS;
 use program::TEXT_CELLS;
@@ -38,8 +45,9 @@ fn main(rt: LibcRuntime) -> Result<(), AnyError> {
 }
 
 fn tour(rt: &LibcRuntime) -> Result<(), AnyError> {
+    show_preprocessing(rt)?;
     let bytes = SHEET.len();
-    println!(rt, "The sheet has {bytes} bytes. Its tokens:")?;
+    println!(rt, "A hotel's sheet has {bytes} bytes. Its tokens:")?;
     show_tokens(rt)?;
     show_normal_form(rt)?;
     compare_calls(rt)?;
@@ -98,7 +106,10 @@ fn show_normal_form(rt: &LibcRuntime) -> Result<(), AnyError> {
     let Formed { sink, answer } = normal_form(SHEET, output, &mut cells);
     match answer {
         Ok((tokens, comments)) => {
-            println!(rt, "Normalized: {tokens} tokens, comments between them: {comments}.")?
+            println!(
+                rt,
+                "Normalized: {tokens} tokens, comments between them: {comments}."
+            )?
         }
         Err(fault) => return Ok(println!(rt, "Normalizing was refused: {fault}.")?),
     }
@@ -118,16 +129,31 @@ fn show_bytes(rt: &LibcRuntime, bytes: &[u8]) -> Result<(), AnyError> {
     Ok(())
 }
 
-fn sign(kind: Kind) -> Token<'static> {
-    Token { kind, mark: 0, text: &[], unit: &[] }
+fn sign(kind: Kind) -> Token<'static>
+    ensures { λ r. ⌜ valueOf r ≡ bare kind ⌝ }
+{
+    Token {
+        kind,
+        mark: 0,
+        text: &[],
+        unit: &[],
+    }
 }
 
-fn ident(text: &[u32]) -> Token<'_> {
-    Token { kind: Kind::Ident, mark: 0, text, unit: &[] }
+fn ident(text: &[u32]) -> Token<'_>
+    ensures { λ r. ⌜ valueOf r ≡ texted Ident (now (text .entry)) ⌝ }
+{
+    Token {
+        kind: Kind::Ident,
+        mark: 0,
+        text,
+        unit: &[],
+    }
 }
 
 // `and` and `x` as code points.
 const AND: &'static [u32] = &[0x61, 0x6e, 0x64];
+
 const X: &'static [u32] = &[0x78];
 
 /// Two lists of calls that accept the same tokens, by other calls and with other refusals on the way.
@@ -152,9 +178,20 @@ fn compare_calls(rt: &LibcRuntime) -> Result<(), AnyError> {
     ];
     let left = BufferSink::new(rt.alloc(), 64)?;
     let right = BufferSink::new(rt.alloc(), 64)?;
-    let Compared { left, right, finished } =
-        compare::<ByteSource<'_>, ArraySource<'_>, BufferSink, BufferSink>(left, &puts, right, &blocks);
-    println!(rt, "Two lists of calls that share their accepted tokens; both finished: {finished}.")?;
+    let Compared {
+        left,
+        right,
+        finished,
+    } = compare::<ByteSource<'_>, ArraySource<'_>, BufferSink, BufferSink>(
+        left,
+        &puts,
+        right,
+        &blocks,
+    );
+    println!(
+        rt,
+        "Two lists of calls that share their accepted tokens; both finished: {finished}."
+    )?;
     let left = left.into_sink();
     let right = right.into_sink();
     show_bytes(rt, left.bytes())?;
@@ -166,7 +203,10 @@ fn write_block(rt: &LibcRuntime) -> Result<(), AnyError> {
     let mut writer = Writer::new(BufferSink::new(rt.alloc(), 64)?);
     match block(&mut writer) {
         Ok((tokens, comments)) => {
-            println!(rt, "A block: {tokens} tokens, comments between them: {comments}.")?
+            println!(
+                rt,
+                "A block: {tokens} tokens, comments between them: {comments}."
+            )?
         }
         Err(fault) => println!(rt, "The block was refused: {fault}.")?,
     }

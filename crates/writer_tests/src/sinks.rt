@@ -1,10 +1,10 @@
 // Sinks that refuse at each byte of a comment and of an escape: what they took before stays.
 use crate::tokens::ident;
-use std::test::*;
-use stream::BufferSink;
 use refusal::Fault;
 use refusal::FaultDebug;
 use refusal::FaultPartialEq;
+use std::test::*;
+use stream::BufferSink;
 use stream::SinkOfBuffer;
 use writer::Writer;
 

@@ -43,7 +43,12 @@ impl<S: Source> Window<S> {
         ensures list { λ r. ⌜ aheadOf (S·Source .ahead) (S·Source .ending) r .list ≡ preprocessed (S·Source .ahead source) ⌝ }
         ensures ending { λ r. ⌜ aheadOf (S·Source .ahead) (S·Source .ending) r .ending ≡ S·Source .ending source ⌝ }
     {
-        Window { source: Preprocess::new(source), first: EMPTY, second: EMPTY, third: EMPTY }
+        Window {
+            source: Preprocess::new(source),
+            first: EMPTY,
+            second: EMPTY,
+            third: EMPTY,
+        }
     }
 
     /// All three cells filled, as far as the source has something.
@@ -59,7 +64,12 @@ impl<S: Source> Window<S> {
         self.first = first;
         self.second = second;
         self.third = third;
-        Peek { first: first.0, second: second.0, third: third.0, place: first.1 }
+        Peek {
+            first: first.0,
+            second: second.0,
+            third: third.0,
+            place: first.1,
+        }
     }
 }
 
