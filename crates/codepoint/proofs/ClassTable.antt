@@ -12,15 +12,15 @@ unfolding class_number
 beyond_ascii c h = cond-true (leb 128 c) _ _ (le-leb 128 c h)
 
 -- a test on code points is a test on class numbers, if both agree on the first 128 and on the class past them
-module _ (test byNumber : ℕ → Bool)
-    (ascii : map test (range_with_len 0 128) ≡ map (λ c. byNumber (class_number c)) (range_with_len 0 128))
-    (beyond : (c : ℕ) → 128 ≤ c → test c ≡ byNumber 7) where
-  told_by_class : (c : ℕ) → test c ≡ byNumber (class_number c)
+module _ (test by_number : ℕ → Bool)
+    (ascii : map test (range_with_len 0 128) ≡ map (λ c. by_number (class_number c)) (range_with_len 0 128))
+    (beyond : (c : ℕ) → 128 ≤ c → test c ≡ by_number 7) where
+  told_by_class : (c : ℕ) → test c ≡ by_number (class_number c)
   told_by_class c = ⊎_elim
       (λ h.
       sym (get_or-map-range_with_len test 0 128 c c false h (omega arith)) ∙ ap (λ bs. get_or bs c false) ascii
-      ∙ get_or-map-range_with_len (λ i. byNumber (class_number i)) 0 128 c c false h (omega arith))
-      (λ h. beyond c h ∙ ap byNumber (sym (beyond_ascii c h)))
+      ∙ get_or-map-range_with_len (λ i. by_number (class_number i)) 0 128 c c false h (omega arith))
+      (λ h. beyond c h ∙ ap by_number (sym (beyond_ascii c h)))
       (cases_lt c 128)
 
 newline_by_class : (c : ℕ) → is_newline c ≡ eqb (class_number c) 1

@@ -49,10 +49,10 @@ finished_bytes_read_back ahead ending held takes s ds u r =
     let told = wrote held takes s ds u r in
     subst (λ bs. ReadsBackAs ahead ending bs (accepted ds)) (sym told.bytes) (reads_back ahead ending (accepted ds) told.fit)
 
-bytes_and_tokens_agree : {A B : Type 0} (heldA : A → List ℕ) (takesA : A → ℕ → Bool) (heldB : B → List ℕ) (takesB : B → ℕ → Bool) → BytesAndTokensAgree heldA takesA heldB takesB
-bytes_and_tokens_agree heldA takesA heldB takesB s ds u t es y r q =
-    let a = wrote heldA takesA s ds u r in
-    let b = wrote heldB takesB t es y q in
+bytes_and_tokens_agree : {A B : Type 0} (held_a : A → List ℕ) (takes_a : A → ℕ → Bool) (held_b : B → List ℕ) (takes_b : B → ℕ → Bool) → BytesAndTokensAgree held_a takes_a held_b takes_b
+bytes_and_tokens_agree held_a takes_a held_b takes_b s ds u t es y r q =
+    let a = wrote held_a takes_a s ds u r in
+    let b = wrote held_b takes_b t es y q in
     let both = bytes_decide_tokens (accepted ds) (accepted es) a.fit b.fit in
     (λ e. both.0 (sym a.bytes ∙ e ∙ b.bytes), λ e. a.bytes ∙ both.1 e ∙ sym b.bytes)
 
@@ -81,33 +81,33 @@ normal ahead ending held takes p s n u f =
       counts = told-so ∙ ap (λ ts. (length ts, comments_in ts)) all;
     }
 
-module _ {P Q A B : Type 0} (aheadP : P → List Placed) (endingP : P → Ending) (aheadQ : Q → List Placed) (endingQ : Q → Ending)
-    (heldA : A → List ℕ) (takesA : A → ℕ → Bool) (heldB : B → List ℕ) (takesB : B → ℕ → Bool) where
-  normal_forms_are_settled : NormalFormsAreSettled aheadP endingP aheadQ endingQ heldA takesA heldB takesB
+module _ {P Q A B : Type 0} (ahead_p : P → List Placed) (ending_p : P → Ending) (ahead_q : Q → List Placed) (ending_q : Q → Ending)
+    (held_a : A → List ℕ) (takes_a : A → ℕ → Bool) (held_b : B → List ℕ) (takes_b : B → ℕ → Bool) where
+  normal_forms_are_settled : NormalFormsAreSettled ahead_p ending_p ahead_q ending_q held_a takes_a held_b takes_b
   normal_forms_are_settled p s n u f =
-      let one = normal aheadP endingP heldA takesA p s n u f in
+      let one = normal ahead_p ending_p held_a takes_a p s n u f in
       let ts = one.tokens in
       record {
         input_tokens = ts;
         yielded = one.yields;
         counted = one.counts;
         second = λ q t again y o g.
-            let two = normal aheadQ endingQ heldB takesB q t again y g in
-            let over : Over (aheadQ q) (endingQ q) (written_bytes (collapsed ts)) = subst (Over (aheadQ q) (endingQ q)) one.bytes o in
-            let same : two.tokens ≡ collapsed ts = yields_once _ two.tokens (collapsed ts) two.yields (yields_over (aheadQ q) (endingQ q) (collapsed ts) one.fit over) in
+            let two = normal ahead_q ending_q held_b takes_b q t again y g in
+            let over : Over (ahead_q q) (ending_q q) (written_bytes (collapsed ts)) = subst (Over (ahead_q q) (ending_q q)) one.bytes o in
+            let same : two.tokens ≡ collapsed ts = yields_once _ two.tokens (collapsed ts) two.yields (yields_over (ahead_q q) (ending_q q) (collapsed ts) one.fit over) in
             let settled : collapsed two.tokens ≡ collapsed ts = ap collapsed same ∙ collapsed_twice ts in
             (two.bytes ∙ ap written_bytes settled ∙ sym one.bytes, two.counts ∙ ap (λ x. (length x, comments_in x)) settled ∙ sym one.counts);
-        read_back = subst (λ bs. ReadsBackAs aheadQ endingQ bs (collapsed ts)) (sym one.bytes) (reads_back aheadQ endingQ (collapsed ts) one.fit);
+        read_back = subst (λ bs. ReadsBackAs ahead_q ending_q bs (collapsed ts)) (sym one.bytes) (reads_back ahead_q ending_q (collapsed ts) one.fit);
       }
 
-  pub normal_form_law : NormalFormLaw aheadP endingP aheadQ endingQ heldA takesA heldB takesB
+  pub normal_form_law : NormalFormLaw ahead_p ending_p ahead_q ending_q held_a takes_a held_b takes_b
   normal_form_law = record {
-    left_answers = calls_are_answered heldA takesA;
-    right_answers = calls_are_answered heldB takesB;
-    decided = bytes_and_tokens_agree heldA takesA heldB takesB;
-    left_back_by_first = finished_bytes_read_back aheadP endingP heldA takesA;
-    left_back_by_second = finished_bytes_read_back aheadQ endingQ heldA takesA;
-    right_back_by_first = finished_bytes_read_back aheadP endingP heldB takesB;
-    right_back_by_second = finished_bytes_read_back aheadQ endingQ heldB takesB;
+    left_answers = calls_are_answered held_a takes_a;
+    right_answers = calls_are_answered held_b takes_b;
+    decided = bytes_and_tokens_agree held_a takes_a held_b takes_b;
+    left_back_by_first = finished_bytes_read_back ahead_p ending_p held_a takes_a;
+    left_back_by_second = finished_bytes_read_back ahead_q ending_q held_a takes_a;
+    right_back_by_first = finished_bytes_read_back ahead_p ending_p held_b takes_b;
+    right_back_by_second = finished_bytes_read_back ahead_q ending_q held_b takes_b;
     settled = normal_forms_are_settled;
   }

@@ -74,9 +74,9 @@ CallsAreAnswered {S} held takes = (w v : Writer S) (d : Deed) → Does held take
 
 -- two finished runs share their bytes exactly when they share their accepted tokens
 abbrev pub BytesAndTokensAgree : {A B : Type 0} → (A → List ℕ) → (A → ℕ → Bool) → (B → List ℕ) → (B → ℕ → Bool) → Type 0
-BytesAndTokensAgree {A} {B} heldA takesA heldB takesB =
-    (s : A) (ds : List Deed) (u : Writer A) (t : B) (es : List Deed) (y : Writer B) → FinishedRun heldA takesA s ds u → FinishedRun heldB takesB t es y
-    → (bytes_beyond heldA s u ≡ bytes_beyond heldB t y → accepted ds ≡ accepted es) × (accepted ds ≡ accepted es → bytes_beyond heldA s u ≡ bytes_beyond heldB t y)
+BytesAndTokensAgree {A} {B} held_a takes_a held_b takes_b =
+    (s : A) (ds : List Deed) (u : Writer A) (t : B) (es : List Deed) (y : Writer B) → FinishedRun held_a takes_a s ds u → FinishedRun held_b takes_b t es y
+    → (bytes_beyond held_a s u ≡ bytes_beyond held_b t y → accepted ds ≡ accepted es) × (accepted ds ≡ accepted es → bytes_beyond held_a s u ≡ bytes_beyond held_b t y)
 
 -- finished bytes read back: a reading over a source over them gives the accepted tokens, and then the end; and there is one
 pub record ReadsBackAs {P : Type 0} (ahead : P → List Placed) (ending : P → Ending) (bs : List ℕ) (ts : List TokenValue) : Type 0 where
@@ -88,30 +88,30 @@ FinishedBytesReadBack {P} {S} ahead ending held takes =
     (s : S) (ds : List Deed) (u : Writer S) → FinishedRun held takes s ds u → ReadsBackAs ahead ending (bytes_beyond held s u) (accepted ds)
 
 -- a second normalize over the bytes of a first one changes no byte, and they read back as the first input's tokens, collapsed
-pub record Settles {P Q A B : Type 0} (aheadP : P → List Placed) (endingP : P → Ending) (aheadQ : Q → List Placed) (endingQ : Q → Ending)
-    (heldA : A → List ℕ) (takesA : A → ℕ → Bool) (heldB : B → List ℕ) (takesB : B → ℕ → Bool) (p : P) (s : A) (answer : ℕ × ℕ) (u : Writer A) : Type 0 where
+pub record Settles {P Q A B : Type 0} (ahead_p : P → List Placed) (ending_p : P → Ending) (ahead_q : Q → List Placed) (ending_q : Q → Ending)
+    (held_a : A → List ℕ) (takes_a : A → ℕ → Bool) (held_b : B → List ℕ) (takes_b : B → ℕ → Bool) (p : P) (s : A) (answer : ℕ × ℕ) (u : Writer A) : Type 0 where
   pub input_tokens : List TokenValue
-  pub yielded : Yields (code_points_of (preprocessed (aheadP p))) input_tokens
+  pub yielded : Yields (code_points_of (preprocessed (ahead_p p))) input_tokens
   pub counted : answer ≡ (length (collapsed input_tokens), comments_in (collapsed input_tokens))
-  pub second : (q : Q) (t : B) (again : ℕ × ℕ) (y : Writer B) → Over (aheadQ q) (endingQ q) (bytes_beyond heldA s u)
-      → FinishedNormalize aheadQ endingQ heldB takesB q t again y → (bytes_beyond heldB t y ≡ bytes_beyond heldA s u) × (again ≡ answer)
-  pub read_back : ReadsBackAs aheadQ endingQ (bytes_beyond heldA s u) (collapsed input_tokens)
+  pub second : (q : Q) (t : B) (again : ℕ × ℕ) (y : Writer B) → Over (ahead_q q) (ending_q q) (bytes_beyond held_a s u)
+      → FinishedNormalize ahead_q ending_q held_b takes_b q t again y → (bytes_beyond held_b t y ≡ bytes_beyond held_a s u) × (again ≡ answer)
+  pub read_back : ReadsBackAs ahead_q ending_q (bytes_beyond held_a s u) (collapsed input_tokens)
 
 abbrev pub NormalFormsAreSettled : {P Q A B : Type 0} → (P → List Placed) → (P → Ending) → (Q → List Placed) → (Q → Ending) → (A → List ℕ) → (A → ℕ → Bool) → (B → List ℕ) → (B → ℕ → Bool) → Type 0
-NormalFormsAreSettled {P} {Q} {A} {B} aheadP endingP aheadQ endingQ heldA takesA heldB takesB =
-    (p : P) (s : A) (answer : ℕ × ℕ) (u : Writer A) → FinishedNormalize aheadP endingP heldA takesA p s answer u → Settles aheadP endingP aheadQ endingQ heldA takesA heldB takesB p s answer u
+NormalFormsAreSettled {P} {Q} {A} {B} ahead_p ending_p ahead_q ending_q held_a takes_a held_b takes_b =
+    (p : P) (s : A) (answer : ℕ × ℕ) (u : Writer A) → FinishedNormalize ahead_p ending_p held_a takes_a p s answer u → Settles ahead_p ending_p ahead_q ending_q held_a takes_a held_b takes_b p s answer u
 
 -- the law, whole
-pub record NormalFormLaw {P Q A B : Type 0} (aheadP : P → List Placed) (endingP : P → Ending) (aheadQ : Q → List Placed) (endingQ : Q → Ending)
-    (heldA : A → List ℕ) (takesA : A → ℕ → Bool) (heldB : B → List ℕ) (takesB : B → ℕ → Bool) : Type 0 where
-  pub left_answers : CallsAreAnswered heldA takesA
-  pub right_answers : CallsAreAnswered heldB takesB
-  pub decided : BytesAndTokensAgree heldA takesA heldB takesB
-  pub left_back_by_first : FinishedBytesReadBack aheadP endingP heldA takesA
-  pub left_back_by_second : FinishedBytesReadBack aheadQ endingQ heldA takesA
-  pub right_back_by_first : FinishedBytesReadBack aheadP endingP heldB takesB
-  pub right_back_by_second : FinishedBytesReadBack aheadQ endingQ heldB takesB
-  pub settled : NormalFormsAreSettled aheadP endingP aheadQ endingQ heldA takesA heldB takesB
+pub record NormalFormLaw {P Q A B : Type 0} (ahead_p : P → List Placed) (ending_p : P → Ending) (ahead_q : Q → List Placed) (ending_q : Q → Ending)
+    (held_a : A → List ℕ) (takes_a : A → ℕ → Bool) (held_b : B → List ℕ) (takes_b : B → ℕ → Bool) : Type 0 where
+  pub left_answers : CallsAreAnswered held_a takes_a
+  pub right_answers : CallsAreAnswered held_b takes_b
+  pub decided : BytesAndTokensAgree held_a takes_a held_b takes_b
+  pub left_back_by_first : FinishedBytesReadBack ahead_p ending_p held_a takes_a
+  pub left_back_by_second : FinishedBytesReadBack ahead_q ending_q held_a takes_a
+  pub right_back_by_first : FinishedBytesReadBack ahead_p ending_p held_b takes_b
+  pub right_back_by_second : FinishedBytesReadBack ahead_q ending_q held_b takes_b
+  pub settled : NormalFormsAreSettled ahead_p ending_p ahead_q ending_q held_a takes_a held_b takes_b
 
 -- a run of these calls, from a new writer over the sink s
 pub record RunFrom {S : Type 0} (held : S → List ℕ) (takes : S → ℕ → Bool) (s : S) (calls : List CallValue) (u : Writer S) : Type 0 where
