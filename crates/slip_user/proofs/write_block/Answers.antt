@@ -6,15 +6,15 @@ use Rattle.slip_user.proofs.write_block.Goals as goal
 
 pub returns-in-err-slip : goal.returns-in-err-slip
 returns-in-err-slip g c =
-    refused c.from-residual.result (did_open (value_of c.bare-token.result) (Err c.in-err-slip.field-0.0) ∷ []) c.from-residual.ensures.0 (more c.in-err-slip.ensures none)
+    refused c.from_residual.result (did_open (value_of c.bare_token.result) (Err c.in-err-slip.field-0.0) ∷ []) c.from_residual.ensures.0 (more c.in-err-slip.ensures none)
 
-pub returns-in-err-close-block : goal.returns-in-err-close-block
-returns-in-err-close-block g c =
-    refused c.from-residual-in-err-close-block.result
-    (did_open (value_of c.bare-token.result) (Ok c.in-ok-slip.slip) ∷ did_put (value_of c.args.token) c.put-inside.result
-    ∷ did_close c.in-ok-slip.slip.depth c.in-ok-slip.slip.kind (Err c.in-err-close-block.field-0.0) ∷ [])
-    c.from-residual-in-err-close-block.ensures.0
-    (more c.in-ok-slip.ensures (more c.put-inside.ensures (more c.in-err-close-block.ensures none)))
+pub returns-in-err-close_block : goal.returns-in-err-close_block
+returns-in-err-close_block g c =
+    refused c.from_residual-in-err-close_block.result
+    (did_open (value_of c.bare_token.result) (Ok c.in-ok-slip.slip) ∷ did_put (value_of c.args.token) c.put-inside.result
+    ∷ did_close c.in-ok-slip.slip.depth c.in-ok-slip.slip.kind (Err c.in-err-close_block.field-0.0) ∷ [])
+    c.from_residual-in-err-close_block.ensures.0
+    (more c.in-ok-slip.ensures (more c.put-inside.ensures (more c.in-err-close_block.ensures none)))
 
 pub returns : goal.returns
-returns g c = block_written c.put-inside.result c.bare-token.ensures c.in-ok-slip.ensures c.put-inside.ensures c.in-ok-close-block.ensures
+returns g c = block_written c.put-inside.result c.bare_token.ensures c.in-ok-slip.ensures c.put-inside.ensures c.in-ok-close_block.ensures

@@ -3,9 +3,9 @@ use Rattle.std.proofs.lemmas.Bool.Decides.{nat_tests}
 use Rattle.codepoint.specs.Starts.{starts_ident}
 use Rattle.codepoint.proofs.starts.starts_ident.Goals as goal
 
-pub returns-then-is-valid-escape : goal.returns-then-is-valid-escape
+pub returns-then-is_valid_escape : goal.returns-then-is_valid_escape
 unfolding starts_ident
-returns-then-is-valid-escape c = grind (arith, nat_tests)
+returns-then-is_valid_escape c = grind (arith, nat_tests)
 
 pub returns-then-first-eq45 : goal.returns-then-first-eq45
 unfolding starts_ident

@@ -10,15 +10,15 @@ returns-in-len1-up c = sym (slice_one c.args.bytes.now (search rules) c.if-a-le1
 
 pub returns-in-len1-up-2 : goal.returns-in-len1-up-2
 returns-in-len1-up-2 c =
-    c.decode-two.ensures ∙ sym (slice_two c.args.bytes.now _ c.if-a-ge194.true c.if-a-le223.true (omega arith))
+    c.decode_two.ensures ∙ sym (slice_two c.args.bytes.now _ c.if-a-ge194.true c.if-a-le223.true (omega arith))
 
 pub returns-in-len1-up-3 : goal.returns-in-len1-up-3
 returns-in-len1-up-3 c =
-    c.decode-three.ensures ∙ sym (slice_three c.args.bytes.now _ c.if-a-ge224.true c.if-a-le239.true (omega arith))
+    c.decode_three.ensures ∙ sym (slice_three c.args.bytes.now _ c.if-a-ge224.true c.if-a-le239.true (omega arith))
 
 pub returns-in-len1-up-4 : goal.returns-in-len1-up-4
 returns-in-len1-up-4 c =
-    c.decode-four.ensures ∙ sym (slice_four c.args.bytes.now _ c.if-a-ge240.true c.if-a-le244.true (omega arith))
+    c.decode_four.ensures ∙ sym (slice_four c.args.bytes.now _ c.if-a-ge240.true c.if-a-le244.true (omega arith))
 
 pub returns-in-default : goal.returns-in-default
 returns-in-default c = sym (slice_none c.args.bytes.now (omega arith) (λ h. omega arith) (λ h. omega arith) (λ h. omega arith))

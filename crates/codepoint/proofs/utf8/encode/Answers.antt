@@ -5,16 +5,16 @@ use Rattle.codepoint.specs.Classes.{is_scalar_value}
 use Rattle.codepoint.specs.Utf8.{utf8, scalar_bytes}
 use Rattle.codepoint.proofs.utf8.encode.Goals as goal
 
-pub encode-scalar-requires : goal.encode-scalar-requires
+pub encode_scalar-requires : goal.encode_scalar-requires
 unfolding is_scalar_value
-encode-scalar-requires c = grind (arith, nat_tests)
+encode_scalar-requires c = grind (arith, nat_tests)
 
-pub returns-then-is-scalar-value : goal.returns-then-is-scalar-value
+pub returns-then-is_scalar_value : goal.returns-then-is_scalar_value
 unfolding utf8
-returns-then-is-scalar-value c = c.encode-scalar.ensures ∙ sym (ap scalar_bytes (cond-true (is_scalar_value c.args.c) c.args.c 0xfffd (sym c.if-is-scalar-value.ensures)))
+returns-then-is_scalar_value c = c.encode_scalar.ensures ∙ sym (ap scalar_bytes (cond-true (is_scalar_value c.args.c) c.args.c 0xfffd (sym c.if-is_scalar_value.ensures)))
 
-pub returns-else-is-scalar-value : goal.returns-else-is-scalar-value
+pub returns-else-is_scalar_value : goal.returns-else-is_scalar_value
 unfolding utf8
-returns-else-is-scalar-value c =
-    c.encode-scalar-else-is-scalar-value.ensures
-    ∙ sym (ap scalar_bytes (cond-false (is_scalar_value c.args.c) c.args.c 0xfffd (sym c.if-is-scalar-value.ensures)))
+returns-else-is_scalar_value c =
+    c.encode_scalar-else-is_scalar_value.ensures
+    ∙ sym (ap scalar_bytes (cond-false (is_scalar_value c.args.c) c.args.c 0xfffd (sym c.if-is_scalar_value.ensures)))

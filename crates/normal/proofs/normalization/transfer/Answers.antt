@@ -7,44 +7,44 @@ use Rattle.normal.proofs.normalization.transfer.Goals as goal
 
 pub returns-in-err-next : goal.returns-in-err-next
 returns-in-err-next g c =
-    let p = err_from_is_err_and c.from-residual.result c.from-residual.ensures.1 in
+    let p = err_from_is_err_and c.from_residual.result c.from_residual.ensures.1 in
     rw (p.1, p.2) (c.loop-next.invariant _ _ _ _
-    (stops_here (model_of g.P.Source.ahead g.P.Source.ending c.loop-next.reader) c.loop-next.cells c.next-token.result c.next-token.new.cells
-    (model_of g.P.Source.ahead g.P.Source.ending c.next-token.new.self) c.next-token.ensures
+    (stops_here (model_of g.P.Source.ahead g.P.Source.ending c.loop-next.reader) c.loop-next.cells c.next_token.result c.next_token.new.cells
+    (model_of g.P.Source.ahead g.P.Source.ending c.next_token.new.self) c.next_token.ensures
     g.S.Sink.held g.S.Sink.takes c.loop-next.writer _ c.in-err-next.was))
 
 pub returns-in-End : goal.returns-in-End
 returns-in-End g c = c.loop-next.invariant _ _ _ _
-    (ends_here (model_of g.P.Source.ahead g.P.Source.ending c.loop-next.reader) c.loop-next.cells c.next-token.result c.next-token.new.cells
-    (model_of g.P.Source.ahead g.P.Source.ending c.next-token.new.self) c.next-token.ensures
+    (ends_here (model_of g.P.Source.ahead g.P.Source.ending c.loop-next.reader) c.loop-next.cells c.next_token.result c.next_token.new.cells
+    (model_of g.P.Source.ahead g.P.Source.ending c.next_token.new.self) c.next_token.ensures
     g.S.Sink.held g.S.Sink.takes _ (c.in-ok-next.was ∙ ap Ok c.in-End.is) c.finish.ensures)
 
 pub returns-in-err-put : goal.returns-in-err-put
 returns-in-err-put g c =
-    let p = err_from_is_err_and c.from-residual-in-err-put.result c.from-residual-in-err-put.ensures.1 in
+    let p = err_from_is_err_and c.from_residual-in-err-put.result c.from_residual-in-err-put.ensures.1 in
     rw (p.1, p.2) (c.loop-next.invariant _ _ _ _
-    (put_stops (model_of g.P.Source.ahead g.P.Source.ending c.loop-next.reader) c.loop-next.cells c.next-token.result c.next-token.new.cells
-    (model_of g.P.Source.ahead g.P.Source.ending c.next-token.new.self) c.next-token.ensures
-    g.S.Sink.held g.S.Sink.takes c.in-Token.token (value_of c.view.result) c.view.ensures _ (c.in-ok-next.was ∙ ap Ok c.in-Token.is) (sym c.if-is-repeated.ensures) c.in-err-put.ensures))
+    (put_stops (model_of g.P.Source.ahead g.P.Source.ending c.loop-next.reader) c.loop-next.cells c.next_token.result c.next_token.new.cells
+    (model_of g.P.Source.ahead g.P.Source.ending c.next_token.new.self) c.next_token.ensures
+    g.S.Sink.held g.S.Sink.takes c.in-Token.token (value_of c.view.result) c.view.ensures _ (c.in-ok-next.was ∙ ap Ok c.in-Token.is) (sym c.if-is_repeated.ensures) c.in-err-put.ensures))
 
 pub loop-next-smaller : goal.loop-next-smaller
 loop-next-smaller g c =
-    less_ahead (model_of g.P.Source.ahead g.P.Source.ending c.loop-next.reader) c.loop-next.cells c.next-token.result c.next-token.new.cells
-    (model_of g.P.Source.ahead g.P.Source.ending c.next-token.new.self) c.next-token.ensures c.in-Token.token (c.in-ok-next.was ∙ ap Ok c.in-Token.is)
+    less_ahead (model_of g.P.Source.ahead g.P.Source.ending c.loop-next.reader) c.loop-next.cells c.next_token.result c.next_token.new.cells
+    (model_of g.P.Source.ahead g.P.Source.ending c.next_token.new.self) c.next_token.ensures c.in-Token.token (c.in-ok-next.was ∙ ap Ok c.in-Token.is)
 
 pub loop-next-preserved : goal.loop-next-preserved
 loop-next-preserved g c = λ r m cells u rest. c.loop-next.invariant r m cells u
-    (puts_on (model_of g.P.Source.ahead g.P.Source.ending c.loop-next.reader) c.loop-next.cells c.next-token.result c.next-token.new.cells
-    (model_of g.P.Source.ahead g.P.Source.ending c.next-token.new.self) c.next-token.ensures
-    g.S.Sink.held g.S.Sink.takes c.in-Token.token (value_of c.view.result) c.view.ensures (c.in-ok-next.was ∙ ap Ok c.in-Token.is) (sym c.if-is-repeated.ensures) c.in-ok-put.ensures c.is-whitespace-after-whitespace.ensures rest)
+    (puts_on (model_of g.P.Source.ahead g.P.Source.ending c.loop-next.reader) c.loop-next.cells c.next_token.result c.next_token.new.cells
+    (model_of g.P.Source.ahead g.P.Source.ending c.next_token.new.self) c.next_token.ensures
+    g.S.Sink.held g.S.Sink.takes c.in-Token.token (value_of c.view.result) c.view.ensures (c.in-ok-next.was ∙ ap Ok c.in-Token.is) (sym c.if-is_repeated.ensures) c.in-ok-put.ensures c.is_whitespace-after_whitespace.ensures rest)
 
-pub loop-next-smaller-then-is-repeated : goal.loop-next-smaller-then-is-repeated
-loop-next-smaller-then-is-repeated g c =
-    less_ahead (model_of g.P.Source.ahead g.P.Source.ending c.loop-next.reader) c.loop-next.cells c.next-token.result c.next-token.new.cells
-    (model_of g.P.Source.ahead g.P.Source.ending c.next-token.new.self) c.next-token.ensures c.in-Token.token (c.in-ok-next.was ∙ ap Ok c.in-Token.is)
+pub loop-next-smaller-then-is_repeated : goal.loop-next-smaller-then-is_repeated
+loop-next-smaller-then-is_repeated g c =
+    less_ahead (model_of g.P.Source.ahead g.P.Source.ending c.loop-next.reader) c.loop-next.cells c.next_token.result c.next_token.new.cells
+    (model_of g.P.Source.ahead g.P.Source.ending c.next_token.new.self) c.next_token.ensures c.in-Token.token (c.in-ok-next.was ∙ ap Ok c.in-Token.is)
 
-pub loop-next-preserved-then-is-repeated : goal.loop-next-preserved-then-is-repeated
-loop-next-preserved-then-is-repeated g c = λ r m cells u rest. c.loop-next.invariant r m cells u
-    (leaves_out (model_of g.P.Source.ahead g.P.Source.ending c.loop-next.reader) c.loop-next.cells c.next-token.result c.next-token.new.cells
-    (model_of g.P.Source.ahead g.P.Source.ending c.next-token.new.self) c.next-token.ensures
-    g.S.Sink.held g.S.Sink.takes c.in-Token.token (c.in-ok-next.was ∙ ap Ok c.in-Token.is) (sym c.if-is-repeated.ensures) rest)
+pub loop-next-preserved-then-is_repeated : goal.loop-next-preserved-then-is_repeated
+loop-next-preserved-then-is_repeated g c = λ r m cells u rest. c.loop-next.invariant r m cells u
+    (leaves_out (model_of g.P.Source.ahead g.P.Source.ending c.loop-next.reader) c.loop-next.cells c.next_token.result c.next_token.new.cells
+    (model_of g.P.Source.ahead g.P.Source.ending c.next_token.new.self) c.next_token.ensures
+    g.S.Sink.held g.S.Sink.takes c.in-Token.token (c.in-ok-next.was ∙ ap Ok c.in-Token.is) (sym c.if-is_repeated.ensures) rest)

@@ -8,7 +8,7 @@ use Rattle.normal.proofs.normalization.transfer.Given as goal
 abbrev pub invariant-loop-next : goal.invariant-loop-next
 invariant-loop-next g l =
     (r : Result (ℕ × ℕ) Fault) (m : Model) (cells : List ℕ) (u : _)
-    → Transfers g.S.Sink.held g.S.Sink.takes l.after-whitespace (model_of g.P.Source.ahead g.P.Source.ending l.reader) l.cells l.writer r m cells u
+    → Transfers g.S.Sink.held g.S.Sink.takes l.after_whitespace (model_of g.P.Source.ahead g.P.Source.ending l.reader) l.cells l.writer r m cells u
     → Transfers g.S.Sink.held g.S.Sink.takes false (model_of g.P.Source.ahead g.P.Source.ending l.initial.reader) l.initial.cells l.initial.writer r m cells u
 
 abbrev pub decreases-loop-next : goal.decreases-loop-next

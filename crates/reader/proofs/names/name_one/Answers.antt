@@ -2,14 +2,14 @@ use Rattle.std.proofs.Common.{sym}
 use Rattle.reader.proofs.Identifying.{begun_plain, begun_escape, begun_none}
 use Rattle.reader.proofs.names.name_one.Goals as goal
 
-pub returns-then-is-ident : goal.returns-then-is-ident
-returns-then-is-ident g c =
-    begun_plain _ _ _ c.peek-seen.ensures.same c.peek-seen.ensures.seen _ (sym c.if-is-ident.ensures) c.bump.ensures
+pub returns-then-is_ident : goal.returns-then-is_ident
+returns-then-is_ident g c =
+    begun_plain _ _ _ c.peek-seen.ensures.same c.peek-seen.ensures.seen _ (sym c.if-is_ident.ensures) c.bump.ensures
 
-pub returns-then-is-valid-escape : goal.returns-then-is-valid-escape
-returns-then-is-valid-escape g c =
-    begun_escape _ _ _ c.peek-seen.ensures.same c.peek-seen.ensures.seen _ _ _ (sym c.if-is-ident.ensures) (sym c.if-is-valid-escape.ensures) c.bump-then-is-valid-escape.ensures c.escape-c.ensures.value c.escape-c.ensures.left
+pub returns-then-is_valid_escape : goal.returns-then-is_valid_escape
+returns-then-is_valid_escape g c =
+    begun_escape _ _ _ c.peek-seen.ensures.same c.peek-seen.ensures.seen _ _ _ (sym c.if-is_ident.ensures) (sym c.if-is_valid_escape.ensures) c.bump-then-is_valid_escape.ensures c.escape-c.ensures.value c.escape-c.ensures.left
 
 pub returns : goal.returns
 returns g c =
-    begun_none _ _ _ c.peek-seen.ensures.same c.peek-seen.ensures.seen (sym c.if-is-ident.ensures) (sym c.if-is-valid-escape.ensures)
+    begun_none _ _ _ c.peek-seen.ensures.same c.peek-seen.ensures.seen (sym c.if-is_ident.ensures) (sym c.if-is_valid_escape.ensures)

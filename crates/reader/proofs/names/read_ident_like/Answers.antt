@@ -1,14 +1,14 @@
 use Rattle.reader.proofs.Identifying.{ident_url, ident_function, ident_plain}
 use Rattle.reader.proofs.names.read_ident_like.Goals as goal
 
-pub returns-then-opens-url : goal.returns-then-opens-url
-returns-then-opens-url g c =
-    ident_url _ _ _ _ _ c.hold-held.ensures c.peek-seen.ensures.same c.peek-seen.ensures.seen _ _ _ _ _ c.if-opens-url.ensures c.bump.ensures c.read-url-or-function.ensures
+pub returns-then-opens_url : goal.returns-then-opens_url
+returns-then-opens_url g c =
+    ident_url _ _ _ _ _ c.hold-held.ensures c.peek-seen.ensures.same c.peek-seen.ensures.seen _ _ _ _ _ c.if-opens_url.ensures c.bump.ensures c.read_url_or_function.ensures
 
 pub returns-then-then-eq40 : goal.returns-then-then-eq40
 returns-then-then-eq40 g c =
-    ident_function _ _ _ _ _ c.hold-held.ensures c.peek-seen.ensures.same c.peek-seen.ensures.seen _ _ _ _ _ _ _ _ c.if-opens-url.ensures c.put-held-begun.ensures.cells c.put-held-begun.ensures.fill c.collect-name-text.ensures c.peek-then.ensures.same c.peek-then.ensures.seen _ c.if-then-eq40.true c.bump-then-then-eq40.ensures
+    ident_function _ _ _ _ _ c.hold-held.ensures c.peek-seen.ensures.same c.peek-seen.ensures.seen _ _ _ _ _ _ _ _ c.if-opens_url.ensures c.put_held-begun.ensures.cells c.put_held-begun.ensures.fill c.collect_name-text.ensures c.peek-then.ensures.same c.peek-then.ensures.seen _ c.if-then-eq40.true c.bump-then-then-eq40.ensures
 
 pub returns : goal.returns
 returns g c =
-    ident_plain _ _ _ _ _ c.hold-held.ensures c.peek-seen.ensures.same c.peek-seen.ensures.seen _ _ _ _ _ _ _ _ c.if-opens-url.ensures c.put-held-begun.ensures.cells c.put-held-begun.ensures.fill c.collect-name-text.ensures c.peek-then.ensures.same c.peek-then.ensures.seen c.if-then-eq40.false
+    ident_plain _ _ _ _ _ c.hold-held.ensures c.peek-seen.ensures.same c.peek-seen.ensures.seen _ _ _ _ _ _ _ _ c.if-opens_url.ensures c.put_held-begun.ensures.cells c.put_held-begun.ensures.fill c.collect_name-text.ensures c.peek-then.ensures.same c.peek-then.ensures.seen c.if-then-eq40.false

@@ -2,14 +2,14 @@ use Rattle.std.proofs.Common.{sym}
 use Rattle.reader.proofs.Textual.{dimension, percentage, plain_number}
 use Rattle.reader.proofs.texts.read_number.Goals as goal
 
-pub returns-then-starts-ident : goal.returns-then-starts-ident
-returns-then-starts-ident g c =
-    dimension _ _ _ _ _ _ _ c.collect-number-text.ensures c.peek-seen.ensures.same c.peek-seen.ensures.seen _ _ _ (sym c.if-starts-ident.ensures) c.collect-name-all.ensures
+pub returns-then-starts_ident : goal.returns-then-starts_ident
+returns-then-starts_ident g c =
+    dimension _ _ _ _ _ _ _ c.collect_number-text.ensures c.peek-seen.ensures.same c.peek-seen.ensures.seen _ _ _ (sym c.if-starts_ident.ensures) c.collect_name-all.ensures
 
 pub returns-then-seen-eq37 : goal.returns-then-seen-eq37
 returns-then-seen-eq37 g c =
-    percentage _ _ _ _ _ _ _ c.collect-number-text.ensures c.peek-seen.ensures.same c.peek-seen.ensures.seen _ (sym c.if-starts-ident.ensures) c.if-seen-eq37.true c.bump.ensures
+    percentage _ _ _ _ _ _ _ c.collect_number-text.ensures c.peek-seen.ensures.same c.peek-seen.ensures.seen _ (sym c.if-starts_ident.ensures) c.if-seen-eq37.true c.bump.ensures
 
 pub returns : goal.returns
 returns g c =
-    plain_number _ _ _ _ _ _ _ c.collect-number-text.ensures c.peek-seen.ensures.same c.peek-seen.ensures.seen (sym c.if-starts-ident.ensures) c.if-seen-eq37.false
+    plain_number _ _ _ _ _ _ _ c.collect_number-text.ensures c.peek-seen.ensures.same c.peek-seen.ensures.seen (sym c.if-starts_ident.ensures) c.if-seen-eq37.false

@@ -20,7 +20,7 @@ drop_min k s =
 pub returns : goal.returns
 returns c =
     let cells = c.args.cells.now in
-    let text = c.split-at.ensures.front ∙ ap (λ n. take n cells) c.min.ensures ∙ take_min c.args.token.text cells in
-    let behind = c.split-at.ensures.back ∙ ap (λ n. drop n cells) c.min.ensures ∙ drop_min c.args.token.text cells in
-    let unit = c.split-at-2.ensures.front ∙ ap (λ n. take n c.split-at.result.1.now) c.min-2.ensures ∙ take_min c.args.token.unit c.split-at.result.1.now ∙ ap (take c.args.token.unit) behind in
+    let text = c.split_at.ensures.front ∙ ap (λ n. take n cells) c.min.ensures ∙ take_min c.args.token.text cells in
+    let behind = c.split_at.ensures.back ∙ ap (λ n. drop n cells) c.min.ensures ∙ drop_min c.args.token.text cells in
+    let unit = c.split_at-2.ensures.front ∙ ap (λ n. take n c.split_at.result.1.now) c.min-2.ensures ∙ take_min c.args.token.unit c.split_at.result.1.now ∙ ap (take c.args.token.unit) behind in
     λ i. tok c.args.token.kind c.args.token.mark (text i) (unit i)

@@ -4,12 +4,12 @@ use Rattle.syntax.specs.Points.{is_one_of}
 use Rattle.syntax.specs.Lawful.{is_delim_mark}
 use Rattle.rules.proofs.lawful.is_delim_mark.Goals as goal
 
-pub returns-then-is-delim-control : goal.returns-then-is-delim-control
+pub returns-then-is_delim_control : goal.returns-then-is_delim_control
 unfolding is_delim_mark
-returns-then-is-delim-control c =
-    c.if-is-delim-control.true ∙ ap (λ b. b || is_one_of (codes "!#$%&*+-./<=>?@\\^`|~") c.args.mark) (sym c.if-is-delim-control.true ∙ c.is-delim-control.ensures)
+returns-then-is_delim_control c =
+    c.if-is_delim_control.true ∙ ap (λ b. b || is_one_of (codes "!#$%&*+-./<=>?@\\^`|~") c.args.mark) (sym c.if-is_delim_control.true ∙ c.is_delim_control.ensures)
 
-pub returns-else-is-delim-control : goal.returns-else-is-delim-control
+pub returns-else-is_delim_control : goal.returns-else-is_delim_control
 unfolding is_delim_mark
-returns-else-is-delim-control c =
-    c.is-one-of.ensures ∙ ap (λ b. b || is_one_of (codes "!#$%&*+-./<=>?@\\^`|~") c.args.mark) (sym c.if-is-delim-control.false ∙ c.is-delim-control.ensures)
+returns-else-is_delim_control c =
+    c.is_one_of.ensures ∙ ap (λ b. b || is_one_of (codes "!#$%&*+-./<=>?@\\^`|~") c.args.mark) (sym c.if-is_delim_control.false ∙ c.is_delim_control.ensures)

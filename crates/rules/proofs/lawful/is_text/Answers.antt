@@ -3,15 +3,15 @@ use Rattle.syntax.specs.Lawful.{is_text_point, is_text}
 use Rattle.rules.proofs.Searches.{fails_here, passes_here, all_passed}
 use Rattle.rules.proofs.lawful.is_text.Goals as goal
 
-pub returns-then-not-is-text-point : goal.returns-then-not-is-text-point
-returns-then-not-is-text-point c =
-    fails_here is_text_point is_text refl (λ d ds. refl) c.args.text.now c.loop-c.c-index c.loop-c-test.true (sym c.is-text-point.ensures ∙ c.if-not-is-text-point.true)
+pub returns-then-not-is_text_point : goal.returns-then-not-is_text_point
+returns-then-not-is_text_point c =
+    fails_here is_text_point is_text refl (λ d ds. refl) c.args.text.now c.loop-c.c-index c.loop-c-test.true (sym c.is_text_point.ensures ∙ c.if-not-is_text_point.true)
     ∙ sym c.loop-c.invariant
 
 pub loop-c-preserved : goal.loop-c-preserved
 loop-c-preserved c =
     c.loop-c.invariant
-    ∙ passes_here is_text_point is_text refl (λ d ds. refl) c.args.text.now c.loop-c.c-index c.loop-c-test.true (sym c.is-text-point.ensures ∙ c.if-not-is-text-point.false)
+    ∙ passes_here is_text_point is_text refl (λ d ds. refl) c.args.text.now c.loop-c.c-index c.loop-c-test.true (sym c.is_text_point.ensures ∙ c.if-not-is_text_point.false)
 
 pub returns : goal.returns
 returns c =

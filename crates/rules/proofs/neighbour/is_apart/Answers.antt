@@ -6,5 +6,5 @@ use Rattle.rules.proofs.neighbour.is_apart.Goals as goal
 pub returns : goal.returns
 unfolding apart
 returns c =
-    ap (λ i. get_or (get_or matrix i []) c.column-of.result false) c.row-of.ensures.number
-    ∙ ap (λ j. get_or (get_or matrix (row_of c.args.left) []) j false) c.column-of.ensures.number
+    ap (λ i. get_or (get_or matrix i []) c.column_of.result false) c.row_of.ensures.number
+    ∙ ap (λ j. get_or (get_or matrix (row_of c.args.left) []) j false) c.column_of.ensures.number

@@ -8,12 +8,12 @@ use Rattle.scan.proofs.collecting.collect_digits.Goals as goal
 
 pub loop-seen-smaller : goal.loop-seen-smaller
 loop-seen-smaller g c =
-    (turn_one (while is_digit) _ _ _ _ _ _ c.loop-seen.invariant _ 0 (test_one _ _ c.peek-seen.ensures.seen is_digit no_digit (sym c.if-not-is-digit.ensures)) _ _ _ (c.bump.ensures ∙ ap (past 1) c.peek-seen.ensures.same) c.put-fill.ensures.cells c.put-fill.ensures.fill).1
+    (turn_one (while is_digit) _ _ _ _ _ _ c.loop-seen.invariant _ 0 (test_one _ _ c.peek-seen.ensures.seen is_digit no_digit (sym c.if-not-is_digit.ensures)) _ _ _ (c.bump.ensures ∙ ap (past 1) c.peek-seen.ensures.same) c.put-fill.ensures.cells c.put-fill.ensures.fill).1
 
 pub loop-seen-preserved : goal.loop-seen-preserved
 loop-seen-preserved g c =
-    (turn_one (while is_digit) _ _ _ _ _ _ c.loop-seen.invariant _ 0 (test_one _ _ c.peek-seen.ensures.seen is_digit no_digit (sym c.if-not-is-digit.ensures)) _ _ _ (c.bump.ensures ∙ ap (past 1) c.peek-seen.ensures.same) c.put-fill.ensures.cells c.put-fill.ensures.fill).0
+    (turn_one (while is_digit) _ _ _ _ _ _ c.loop-seen.invariant _ 0 (test_one _ _ c.peek-seen.ensures.seen is_digit no_digit (sym c.if-not-is_digit.ensures)) _ _ _ (c.bump.ensures ∙ ap (past 1) c.peek-seen.ensures.same) c.put-fill.ensures.cells c.put-fill.ensures.fill).0
 
-pub returns-then-not-is-digit : goal.returns-then-not-is-digit
-returns-then-not-is-digit g c =
-    finish (while is_digit) _ _ _ _ _ _ c.loop-seen.invariant (test_stop _ _ c.peek-seen.ensures.seen is_digit (sym c.if-not-is-digit.ensures)) _ c.peek-seen.ensures.same
+pub returns-then-not-is_digit : goal.returns-then-not-is_digit
+returns-then-not-is_digit g c =
+    finish (while is_digit) _ _ _ _ _ _ c.loop-seen.invariant (test_stop _ _ c.peek-seen.ensures.seen is_digit (sym c.if-not-is_digit.ensures)) _ c.peek-seen.ensures.same

@@ -9,12 +9,12 @@ returns-then-c-eq-EOF g c =
     let p = escape_at_end _ _ (ap code_points_of (c.peek-c.ensures.ends.none c.if-c-eq-EOF.true)) c.peek-c.ensures.same in
     record { value = p.0; left = p.1 }
 
-pub returns-then-is-hex-digit : goal.returns-then-is-hex-digit
-returns-then-is-hex-digit g c =
-    let p = numbered_escape _ _ _ _ _ (ap (λ w. w.first) c.peek-c.ensures.seen) (sym c.if-is-hex-digit.ensures) c.peek-c.ensures.same (c.hex-escape.ensures.value, c.hex-escape.ensures.left) in
+pub returns-then-is_hex_digit : goal.returns-then-is_hex_digit
+returns-then-is_hex_digit g c =
+    let p = numbered_escape _ _ _ _ _ (ap (λ w. w.first) c.peek-c.ensures.seen) (sym c.if-is_hex_digit.ensures) c.peek-c.ensures.same (c.hex_escape.ensures.value, c.hex_escape.ensures.left) in
     record { value = p.0; left = p.1 }
 
 pub returns : goal.returns
 returns g c =
-    let p = plain_escape _ _ _ (ap (λ w. w.first) c.peek-c.ensures.seen) c.if-c-eq-EOF.false (sym c.if-is-hex-digit.ensures) (c.bump.ensures ∙ ap (past 1) c.peek-c.ensures.same) in
+    let p = plain_escape _ _ _ (ap (λ w. w.first) c.peek-c.ensures.seen) c.if-c-eq-EOF.false (sym c.if-is_hex_digit.ensures) (c.bump.ensures ∙ ap (past 1) c.peek-c.ensures.same) in
     record { value = p.0; left = p.1 }

@@ -6,11 +6,11 @@ use Rattle.scan.proofs.skipping.skip_comments.Goals as goal
 
 pub loop-seen-smaller : goal.loop-seen-smaller
 loop-seen-smaller g c =
-    (skip_turn in_comments _ _ c.loop-seen.invariant _ _ (comments_gives _ _ c.peek-seen.ensures.seen c.if-seen-ne47.false c.if-seen-ne42.false) _ (comments_turn _ _ c.peek-seen.ensures.seen (comments_gives _ _ c.peek-seen.ensures.seen c.if-seen-ne47.false c.if-seen-ne42.false) _ _ (bump_twice _ _ _ _ c.peek-seen.ensures.same c.bump.ensures c.bump-in-loop-seen.ensures) c.skip-comment.ensures)).1
+    (skip_turn in_comments _ _ c.loop-seen.invariant _ _ (comments_gives _ _ c.peek-seen.ensures.seen c.if-seen-ne47.false c.if-seen-ne42.false) _ (comments_turn _ _ c.peek-seen.ensures.seen (comments_gives _ _ c.peek-seen.ensures.seen c.if-seen-ne47.false c.if-seen-ne42.false) _ _ (bump_twice _ _ _ _ c.peek-seen.ensures.same c.bump.ensures c.bump-in-loop-seen.ensures) c.skip_comment.ensures)).1
 
 pub loop-seen-preserved : goal.loop-seen-preserved
 loop-seen-preserved g c =
-    (skip_turn in_comments _ _ c.loop-seen.invariant _ _ (comments_gives _ _ c.peek-seen.ensures.seen c.if-seen-ne47.false c.if-seen-ne42.false) _ (comments_turn _ _ c.peek-seen.ensures.seen (comments_gives _ _ c.peek-seen.ensures.seen c.if-seen-ne47.false c.if-seen-ne42.false) _ _ (bump_twice _ _ _ _ c.peek-seen.ensures.same c.bump.ensures c.bump-in-loop-seen.ensures) c.skip-comment.ensures)).0
+    (skip_turn in_comments _ _ c.loop-seen.invariant _ _ (comments_gives _ _ c.peek-seen.ensures.seen c.if-seen-ne47.false c.if-seen-ne42.false) _ (comments_turn _ _ c.peek-seen.ensures.seen (comments_gives _ _ c.peek-seen.ensures.seen c.if-seen-ne47.false c.if-seen-ne42.false) _ _ (bump_twice _ _ _ _ c.peek-seen.ensures.same c.bump.ensures c.bump-in-loop-seen.ensures) c.skip_comment.ensures)).0
 
 pub returns-then-seen-ne47 : goal.returns-then-seen-ne47
 returns-then-seen-ne47 g c =

@@ -8,17 +8,17 @@ use Rattle.spelling.proofs.text.emit_hex.Goals as goal
 pub returns-in-err-emit : goal.returns-in-err-emit
 unfolding hex
 returns-in-err-emit g c =
-    cut_short c.from-residual.result (backslash ∷ []) (hex_digits 6 c.args.c ++ (space ∷ [])) c.from-residual.ensures.1
+    cut_short c.from_residual.result (backslash ∷ []) (hex_digits 6 c.args.c ++ (space ∷ [])) c.from_residual.ensures.1
     (by (bytes_ascii (backslash ∷ []) refl) c.in-err-emit.ensures.steps)
 
-pub returns-in-err-emit-hex-digits : goal.returns-in-err-emit-hex-digits
+pub returns-in-err-emit_hex_digits : goal.returns-in-err-emit_hex_digits
 unfolding hex
-returns-in-err-emit-hex-digits g c =
+returns-in-err-emit_hex_digits g c =
     and_then (backslash ∷ []) (hex_digits 6 c.args.c ++ (space ∷ [])) (by (bytes_ascii (backslash ∷ []) refl) c.in-ok-emit.ensures.steps)
-    (cut_short c.from-residual-in-err-emit-hex-digits.result (hex_digits 6 c.args.c) (space ∷ []) c.from-residual-in-err-emit-hex-digits.ensures.1 c.in-err-emit-hex-digits.ensures)
+    (cut_short c.from_residual-in-err-emit_hex_digits.result (hex_digits 6 c.args.c) (space ∷ []) c.from_residual-in-err-emit_hex_digits.ensures.1 c.in-err-emit_hex_digits.ensures)
 
 pub returns : goal.returns
 unfolding hex
 returns g c =
     and_then (backslash ∷ []) (hex_digits 6 c.args.c ++ (space ∷ [])) (by (bytes_ascii (backslash ∷ []) refl) c.in-ok-emit.ensures.steps)
-    (and_then (hex_digits 6 c.args.c) (space ∷ []) c.in-ok-emit-hex-digits.ensures (by (bytes_ascii (space ∷ []) refl) c.emit-2.ensures.steps))
+    (and_then (hex_digits 6 c.args.c) (space ∷ []) c.in-ok-emit_hex_digits.ensures (by (bytes_ascii (space ∷ []) refl) c.emit-2.ensures.steps))

@@ -10,15 +10,15 @@ use Rattle.spelling.proofs.token.emit_hash.Goals as goal
 
 pub returns-in-err-emit : goal.returns-in-err-emit
 returns-in-err-emit g c =
-    cut_short c.from-residual.result (codes "#") (spelled_in (hash_place c.args.mark) c.args.text.now) c.from-residual.ensures.1
+    cut_short c.from_residual.result (codes "#") (spelled_in (hash_place c.args.mark) c.args.text.now) c.from_residual.ensures.1
     (by (bytes_ascii (codes "#") refl) c.in-err-emit.ensures.steps)
 
 pub returns-then-mark-eq1 : goal.returns-then-mark-eq1
 returns-then-mark-eq1 g c =
     and_then (codes "#") (spelled_in (hash_place c.args.mark) c.args.text.now) (by (bytes_ascii (codes "#") refl) c.in-ok-emit.ensures.steps)
-    (by (ap (λ p. bytes_of (spelled_in p c.args.text.now)) (sym (cond-true (eqb c.args.mark 1) identifier loose (let t = c.if-mark-eq1.true in grind (arith, nat_tests))))) c.emit-text.ensures)
+    (by (ap (λ p. bytes_of (spelled_in p c.args.text.now)) (sym (cond-true (eqb c.args.mark 1) identifier loose (let t = c.if-mark-eq1.true in grind (arith, nat_tests))))) c.emit_text.ensures)
 
 pub returns-else-mark-eq1 : goal.returns-else-mark-eq1
 returns-else-mark-eq1 g c =
     and_then (codes "#") (spelled_in (hash_place c.args.mark) c.args.text.now) (by (bytes_ascii (codes "#") refl) c.in-ok-emit.ensures.steps)
-    (by (ap (λ p. bytes_of (spelled_in p c.args.text.now)) (sym (cond-false (eqb c.args.mark 1) identifier loose (let t = c.if-mark-eq1.false in grind (arith, nat_tests))))) c.emit-text-else-mark-eq1.ensures)
+    (by (ap (λ p. bytes_of (spelled_in p c.args.text.now)) (sym (cond-false (eqb c.args.mark 1) identifier loose (let t = c.if-mark-eq1.false in grind (arith, nat_tests))))) c.emit_text-else-mark-eq1.ensures)

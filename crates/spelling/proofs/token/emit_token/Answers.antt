@@ -8,16 +8,16 @@ use Rattle.spelling.proofs.Spelled.{of_kind}
 use Rattle.spelling.proofs.token.emit_token.Goals as goal
 
 pub returns-in-Ident : goal.returns-in-Ident
-returns-in-Ident g c = of_kind Ident c.args.waiting (value_of c.args.token) c.in-Ident.is c.emit-text.ensures
+returns-in-Ident g c = of_kind Ident c.args.waiting (value_of c.args.token) c.in-Ident.is c.emit_text.ensures
 
 pub returns-in-Function : goal.returns-in-Function
-returns-in-Function g c = of_kind Function c.args.waiting (value_of c.args.token) c.in-Function.is c.emit-function.ensures
+returns-in-Function g c = of_kind Function c.args.waiting (value_of c.args.token) c.in-Function.is c.emit_function.ensures
 
 pub returns-in-AtKeyword : goal.returns-in-AtKeyword
-returns-in-AtKeyword g c = of_kind AtKeyword c.args.waiting (value_of c.args.token) c.in-AtKeyword.is c.emit-at-keyword.ensures
+returns-in-AtKeyword g c = of_kind AtKeyword c.args.waiting (value_of c.args.token) c.in-AtKeyword.is c.emit_at_keyword.ensures
 
 pub returns-in-Hash : goal.returns-in-Hash
-returns-in-Hash g c = of_kind Hash c.args.waiting (value_of c.args.token) c.in-Hash.is c.emit-hash.ensures
+returns-in-Hash g c = of_kind Hash c.args.waiting (value_of c.args.token) c.in-Hash.is c.emit_hash.ensures
 
 pub returns-in-QuotedString : goal.returns-in-QuotedString
 returns-in-QuotedString g c = of_kind QuotedString c.args.waiting (value_of c.args.token) c.in-QuotedString.is c.emit-text_in-QuotedString.ensures
@@ -26,13 +26,13 @@ pub returns-in-Url : goal.returns-in-Url
 returns-in-Url g c = of_kind Url c.args.waiting (value_of c.args.token) c.in-Url.is c.emit-text_in-Url.ensures
 
 pub returns-in-Number : goal.returns-in-Number
-returns-in-Number g c = of_kind Number c.args.waiting (value_of c.args.token) c.in-Number.is c.emit-points.ensures
+returns-in-Number g c = of_kind Number c.args.waiting (value_of c.args.token) c.in-Number.is c.emit_points.ensures
 
 pub returns-in-Percentage : goal.returns-in-Percentage
-returns-in-Percentage g c = of_kind Percentage c.args.waiting (value_of c.args.token) c.in-Percentage.is c.emit-percentage.ensures
+returns-in-Percentage g c = of_kind Percentage c.args.waiting (value_of c.args.token) c.in-Percentage.is c.emit_percentage.ensures
 
 pub returns-in-Dimension : goal.returns-in-Dimension
-returns-in-Dimension g c = of_kind Dimension c.args.waiting (value_of c.args.token) c.in-Dimension.is c.emit-dimension.ensures
+returns-in-Dimension g c = of_kind Dimension c.args.waiting (value_of c.args.token) c.in-Dimension.is c.emit_dimension.ensures
 
 pub returns-in-BadString : goal.returns-in-BadString
 returns-in-BadString g c =
@@ -42,11 +42,11 @@ returns-in-BadString g c =
     c.in-BadString.is
 
 pub returns-in-Delim : goal.returns-in-Delim
-returns-in-Delim g c = of_kind Delim c.args.waiting (value_of c.args.token) c.in-Delim.is (by (bytes_one c.args.token.mark) c.emit-code-point.ensures.steps)
+returns-in-Delim g c = of_kind Delim c.args.waiting (value_of c.args.token) c.in-Delim.is (by (bytes_one c.args.token.mark) c.emit_code_point.ensures.steps)
 
 pub returns-in-Whitespace : goal.returns-in-Whitespace
 returns-in-Whitespace g c =
-    of_kind Whitespace c.args.waiting (value_of c.args.token) c.in-Whitespace.is (by (bytes_one c.blank-of.result ∙ ap (λ b. bytes_of (b ∷ [])) c.blank-of.ensures) c.emit-code-point-in-Whitespace.ensures.steps)
+    of_kind Whitespace c.args.waiting (value_of c.args.token) c.in-Whitespace.is (by (bytes_one c.blank_of.result ∙ ap (λ b. bytes_of (b ∷ [])) c.blank_of.ensures) c.emit_code_point-in-Whitespace.ensures.steps)
 
 pub returns-in-Cdo : goal.returns-in-Cdo
 returns-in-Cdo g c = of_kind Cdo c.args.waiting (value_of c.args.token) c.in-Cdo.is (by (bytes_ascii (codes "<!--") refl) c.emit.ensures.steps)

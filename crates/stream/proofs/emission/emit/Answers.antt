@@ -9,7 +9,7 @@ loop-byte-preserved g c = λ r z e.
 
 pub returns-in-err-take : goal.returns-in-err-take
 returns-in-err-take g c =
-    let p = err_from_is_err_and c.from-residual.result c.from-residual.ensures.1 in
+    let p = err_from_is_err_and c.from_residual.result c.from_residual.ensures.1 in
     let whole =
     c.loop-byte.invariant _ _
     (halted g.S.Sink.held g.S.Sink.takes c.args.bytes.now c.loop-byte.byte-index c.loop-byte-test.true c.in-err-take.ensures) in

@@ -3,8 +3,8 @@ use Rattle.lookahead.specs.Windows.{points_of, run}
 use Rattle.lookahead.proofs.Chunks.{fronted, fronted_filled, run_moved, same}
 use Rattle.lookahead.proofs.window.Window.move_to_front.Goals as goal
 
-pub invariant-of-self : goal.invariant-of-self
-invariant-of-self g c =
+pub invariant_of-self : goal.invariant_of-self
+invariant_of-self g c =
     let w = c.args.self.now in
     (omega arith, (omega arith, (fronted_filled (w.end - w.at) w.at w.codes c.requires (omega arith) (λ k h. w.filled k (omega (arith, w.ordered))), tt)))
 

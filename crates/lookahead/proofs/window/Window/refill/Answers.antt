@@ -3,8 +3,8 @@ use Rattle.lookahead.specs.Windows.{points_of}
 use Rattle.lookahead.proofs.Chunks.{behind_has_no_zero, first_is_not_zero, handed_point, one_more, same, still_filled}
 use Rattle.lookahead.proofs.window.Window.refill.Goals as goal
 
-pub invariant-of-self-in-Point : goal.invariant-of-self-in-Point
-invariant-of-self-in-Point g c =
+pub invariant_of-self-in-Point : goal.invariant_of-self-in-Point
+invariant_of-self-in-Point g c =
     let w = c.loop-i.self in
     let handed = handed_point (points_of g.S.Source.ahead w.source) _ _ _ c.next.result (c.in-Point.c, c.in-Point.place) (c.in-Ok.is ∙ ap Ok c.in-Point.is) c.next.ensures in
     let some = first_is_not_zero _ _ (c.in-Point.c, c.in-Point.place) (behind_has_no_zero w.source.after_cr (g.S.Source.ahead w.source.below)) handed.0 in

@@ -2,14 +2,14 @@ use Rattle.std.proofs.Common.{rules}
 use Rattle.syntax.specs.Places.{identifier}
 use Rattle.spelling.proofs.place.IdentifierSpellingPlace.treat.Goals as goal
 
-pub returns-then-is-leading : goal.returns-then-is-leading
+pub returns-then-is_leading : goal.returns-then-is_leading
 unfolding identifier
-returns-then-is-leading c = search rules
+returns-then-is_leading c = search rules
 
-pub returns-then-not-is-lone-hyphen : goal.returns-then-not-is-lone-hyphen
+pub returns-then-not-is_lone_hyphen : goal.returns-then-not-is_lone_hyphen
 unfolding identifier
-returns-then-not-is-lone-hyphen c = search rules
+returns-then-not-is_lone_hyphen c = search rules
 
-pub returns-else-is-ident : goal.returns-else-is-ident
+pub returns-else-is_ident : goal.returns-else-is_ident
 unfolding identifier
-returns-else-is-ident c = search rules
+returns-else-is_ident c = search rules

@@ -11,11 +11,11 @@ ends-inside c =
     let fits = decoded_fits (drop at xs) c.in-Point.c c.in-Point.len (ap decoded (sym (left_of_slice at xs)) ∙ sym c.in-Point.ensures) in
     omega (arith, length-drop at xs, c.args.self.now.inside)
 
-pub overflow-add-self : goal.overflow-add-self
-overflow-add-self c = let h = ends-inside c in search rules
+pub overflow_add-self : goal.overflow_add-self
+overflow_add-self c = let h = ends-inside c in search rules
 
-pub invariant-of-self : goal.invariant-of-self
-invariant-of-self c = (ends-inside c, tt)
+pub invariant_of-self : goal.invariant_of-self
+invariant_of-self c = (ends-inside c, tt)
 
 pub returns-in-Empty : goal.returns-in-Empty
 returns-in-Empty c = bytes_at_end c.args.self.now.at (drop c.args.self.now.at c.args.self.now.bytes.now) (ap decoded (sym (left_of_slice c.args.self.now.at c.args.self.now.bytes.now)) ∙ sym c.in-Empty.ensures)

@@ -10,13 +10,13 @@ pub returns-in-Some : goal.returns-in-Some
 unfolding close_refusals
 returns-in-Some c = search rules
 
-pub returns-then-not-is-innermost : goal.returns-then-not-is-innermost
+pub returns-then-not-is_innermost : goal.returns-then-not-is_innermost
 unfolding close_refusals
-returns-then-not-is-innermost c = search rules
+returns-then-not-is_innermost c = search rules
 
-pub returns-then-is-out-of-turn : goal.returns-then-is-out-of-turn
+pub returns-then-is_out_of_turn : goal.returns-then-is_out_of_turn
 unfolding close_refusals
-returns-then-is-out-of-turn c = search rules
+returns-then-is_out_of_turn c = search rules
 
 pub returns : goal.returns
 unfolding close_refusals

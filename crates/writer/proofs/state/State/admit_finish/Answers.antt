@@ -10,9 +10,9 @@ pub returns-in-Some : goal.returns-in-Some
 unfolding finish_refusals
 returns-in-Some c = search rules
 
-pub returns-then-not-is-free : goal.returns-then-not-is-free
+pub returns-then-not-is_free : goal.returns-then-not-is_free
 unfolding finish_refusals
-returns-then-not-is-free c = search rules
+returns-then-not-is_free c = search rules
 
 pub returns-then-self-gt0 : goal.returns-then-self-gt0
 unfolding finish_refusals

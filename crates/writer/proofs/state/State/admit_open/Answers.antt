@@ -10,13 +10,13 @@ pub returns-in-Some : goal.returns-in-Some
 unfolding open_refusals
 returns-in-Some c = search rules
 
-pub returns-then-not-is-lawful : goal.returns-then-not-is-lawful
+pub returns-then-not-is_lawful : goal.returns-then-not-is_lawful
 unfolding open_refusals
-returns-then-not-is-lawful c = search rules
+returns-then-not-is_lawful c = search rules
 
-pub returns-then-is-out-of-turn : goal.returns-then-is-out-of-turn
+pub returns-then-is_out_of_turn : goal.returns-then-is_out_of_turn
 unfolding open_refusals
-returns-then-is-out-of-turn c = search rules
+returns-then-is_out_of_turn c = search rules
 
 pub returns-then-self-ge-DEPTH : goal.returns-then-self-ge-DEPTH
 unfolding open_refusals

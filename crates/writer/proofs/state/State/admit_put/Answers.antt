@@ -10,25 +10,25 @@ pub returns-in-Some : goal.returns-in-Some
 unfolding put_refusals
 returns-in-Some c = search rules
 
-pub returns-then-is-bad : goal.returns-then-is-bad
+pub returns-then-is_bad : goal.returns-then-is_bad
 unfolding put_refusals
-returns-then-is-bad c = search rules
+returns-then-is_bad c = search rules
 
-pub returns-then-not-is-lawful : goal.returns-then-not-is-lawful
+pub returns-then-not-is_lawful : goal.returns-then-not-is_lawful
 unfolding put_refusals
-returns-then-not-is-lawful c = search rules
+returns-then-not-is_lawful c = search rules
 
-pub returns-then-is-in-block : goal.returns-then-is-in-block
+pub returns-then-is_in_block : goal.returns-then-is_in_block
 unfolding put_refusals
-returns-then-is-in-block c = search rules
+returns-then-is_in_block c = search rules
 
-pub returns-then-is-out-of-turn : goal.returns-then-is-out-of-turn
+pub returns-then-is_out_of_turn : goal.returns-then-is_out_of_turn
 unfolding put_refusals
-returns-then-is-out-of-turn c = search rules
+returns-then-is_out_of_turn c = search rules
 
-pub returns-then-repeats-whitespace : goal.returns-then-repeats-whitespace
+pub returns-then-repeats_whitespace : goal.returns-then-repeats_whitespace
 unfolding put_refusals
-returns-then-repeats-whitespace c = search rules
+returns-then-repeats_whitespace c = search rules
 
 pub returns-then-self-ge-ROOM : goal.returns-then-self-ge-ROOM
 unfolding put_refusals

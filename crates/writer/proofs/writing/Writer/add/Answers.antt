@@ -5,9 +5,9 @@ use Rattle.writer.proofs.writing.Writer.add.Goals as goal
 
 pub returns-in-Ok : goal.returns-in-Ok
 returns-in-Ok g c =
-    whole (with_comment c.args.self.now.state (value_of c.args.token) c.is-due-due.result c.is-due-due.ensures c.in-Ok.ensures) c.advanced-self.ensures
+    whole (with_comment c.args.self.now.state (value_of c.args.token) c.is_due-due.result c.is_due-due.ensures c.in-Ok.ensures) c.advanced-self.ensures
 
 pub returns-in-Err : goal.returns-in-Err
 returns-in-Err g c =
-    broken (with_comment c.args.self.now.state (value_of c.args.token) c.is-due-due.result c.is-due-due.ensures c.in-Err.ensures)
+    broken (with_comment c.args.self.now.state (value_of c.args.token) c.is_due-due.result c.is_due-due.ensures c.in-Err.ensures)
     (stopped_at c.place.ensures c.stopped-self.ensures)

@@ -16,7 +16,7 @@ returns-in-err-slip g c =
     record {
       deed = did_open (value_of c.in-Open.token) (Err c.in-err-slip.field-0.0);
       of_call = sym (ap call_of c.in-Open.is);
-      answers = answers_fault c.in-err-slip.field-0.0 c.from-residual.result c.from-residual.ensures.1;
+      answers = answers_fault c.in-err-slip.field-0.0 c.from_residual.result c.from_residual.ensures.1;
       does = c.in-err-slip.ensures;
     }
 
@@ -29,7 +29,7 @@ returns-in-err-finish g c =
     record {
       deed = did_finish (Err c.in-err-finish.field-0.0);
       of_call = sym (ap call_of c.in-Finish.is);
-      answers = answers_fault c.in-err-finish.field-0.0 c.from-residual-in-err-finish.result c.from-residual-in-err-finish.ensures.1;
+      answers = answers_fault c.in-err-finish.field-0.0 c.from_residual-in-err-finish.result c.from_residual-in-err-finish.ensures.1;
       does = c.in-err-finish.ensures;
     }
 
