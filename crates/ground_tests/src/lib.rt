@@ -1,4 +1,5 @@
 //! Examples of the layers below tokens, worked out by hand from the rules.
+#![tactic(auto)]
 
 #[cfg(test)]
 mod decoding;

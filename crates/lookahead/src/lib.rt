@@ -4,6 +4,7 @@
 //! preprocessing layer over any source: it takes code points from the source some dozens at a time, and shows and passes
 //! them one by one. Proved here: whatever lies in the window and whatever is still in the source are one list, which
 //! only `bump` shortens, and only by its first code point.
+#![tactic(auto)]
 
 mod ahead;
 mod window;

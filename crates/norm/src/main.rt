@@ -1,5 +1,7 @@
 //! Reads a sheet from standard input and writes its normal form to standard output; or writes one line
 //! `fault NUMBER LAYER PLACE` to standard error and ends with status 1.
+#![tactic(auto)]
+
 use anyhow::anyhow;
 use program::{Formed, INPUT_LIMIT, OUTPUT_CELLS, TEXT_CELLS, normal_form};
 use std::env;

@@ -2,6 +2,8 @@
 //!
 //! Proved here: for every input and every sink, a sheet that is too long is refused before anything else and without
 //! touching the sink; any other sheet is normalized from its bytes into the sink.
+#![tactic(auto)]
+
 ghost use Rattle.program.specs.Forming.{Forms};
 
 use normal::{Normalized, normalize};

@@ -4,6 +4,7 @@
 //! (`specs/NextToken.antt`) is an equation for everything it touches: the answer, each cell, what is left of the
 //! input, and what the reader does next. `readings_give_the_tokens` carries the theorem that calling it to the end
 //! gives exactly the tokens of the source's preprocessed code points.
+#![tactic(auto)]
 
 mod answer;
 mod answering;

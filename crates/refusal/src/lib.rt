@@ -2,6 +2,7 @@
 //!
 //! Proved here: each fault answers the number, the layer and the place that its definition names, and shows them as
 //! in `fault 6 writer 4`.
+#![tactic(auto)]
 
 mod fault;
 

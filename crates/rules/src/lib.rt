@@ -1,5 +1,6 @@
 //! The rules that a writer holds tokens to: which are lawful, which are in turn, and between which neighbours a
 //! comment stands. Each function answers exactly what the definition of `syntax` says.
+#![tactic(auto)]
 
 mod lawful;
 mod neighbour;

@@ -5,6 +5,7 @@
 //! three code points in sight; `Window` gives that over the preprocessing layer over any source. Each function's
 //! contract names the rule of `syntax` that it follows: what the rule collects is laid into the cells, and what the
 //! rule leaves is ahead afterwards, places included.
+#![tactic(auto)]
 
 mod collecting;
 mod escapes;

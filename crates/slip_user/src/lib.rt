@@ -1,4 +1,6 @@
 //! Blocks written from outside the writer: every slip is spent, and each one closes its own block.
+#![tactic(auto)]
+
 ghost use Rattle.slip_user.specs.Blocks.{Writes};
 ghost use Rattle.syntax.specs.Tokens.{bare, value_of};
 ghost use Rattle.syntax.specs.declared.kind.Kind.TheVariants.{CloseCurly, CloseSquare, OpenCurly, OpenSquare};

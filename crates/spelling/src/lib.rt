@@ -2,6 +2,7 @@
 //!
 //! One rule of escaping serves every place where a text stands. What goes out is pinned, for every text and token, to
 //! the spelling of `syntax` in UTF-8: all of its bytes, or those before the first that the sink refuses.
+#![tactic(auto)]
 
 mod place;
 mod text;

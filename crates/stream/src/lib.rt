@@ -4,6 +4,7 @@
 //! Proved here: the array source, the byte source and the preprocessing layer are sources with exactly the lists that
 //! their rules give; the buffer sink and the comparing sink are sinks that take exactly the bytes that their rules
 //! name; and bytes emitted to any sink are taken one after another up to the first that it refuses.
+#![tactic(auto)]
 
 mod array;
 mod buffer;

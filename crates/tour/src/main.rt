@@ -1,5 +1,7 @@
 //! A sheet on its whole way: preprocessed, read into tokens, normalized, normalized again, written by other calls, and
 //! refused where it is damaged.
+#![tactic(auto)]
+
 ghost use Rattle.syntax.specs.Tokens.{bare, texted, value_of};
 ghost use Rattle.syntax.specs.declared.kind.Kind.TheVariants.{Ident};
 ghost use Rattle.std.specs.Prelude.{◌≡◌};

@@ -3,6 +3,7 @@
 //!
 //! Each call's contract says which refusal it gives, by the first rule that applies, and what the writer and its sink
 //! are afterwards. Runs of calls are followed by those same relations: a finished run has written its accepted tokens.
+#![tactic(auto)]
 
 mod admission;
 mod calls;

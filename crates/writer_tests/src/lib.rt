@@ -1,4 +1,5 @@
 //! Examples of the writer at its limits, worked out by hand from the rules.
+#![tactic(auto)]
 
 #[cfg(test)]
 mod limits;

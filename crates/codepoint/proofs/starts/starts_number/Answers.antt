@@ -8,6 +8,6 @@ pub returns-in-43 : goal.returns-in-43
 unfolding starts_number is_digit
 returns-in-43 c = grind (arith, nat_tests)
 
-pub returns-in-default : goal.returns-in-default
+pub returns-in_default : goal.returns-in_default
 unfolding starts_number is_digit
-returns-in-default c = grind (arith, nat_tests)
+returns-in_default c = grind (arith, nat_tests)

@@ -20,8 +20,8 @@ pub returns-in-len1-up-4 : goal.returns-in-len1-up-4
 returns-in-len1-up-4 c =
     c.decode_four.ensures ∙ sym (slice_four c.args.bytes.now _ c.if-a-ge240.true c.if-a-le244.true (omega arith))
 
-pub returns-in-default : goal.returns-in-default
-returns-in-default c = sym (slice_none c.args.bytes.now (omega arith) (λ h. omega arith) (λ h. omega arith) (λ h. omega arith))
+pub returns-in_default : goal.returns-in_default
+returns-in_default c = sym (slice_none c.args.bytes.now (omega arith) (λ h. omega arith) (λ h. omega arith) (λ h. omega arith))
 
-pub returns-in-default·2 : goal.returns-in-default·2
-returns-in-default·2 c = sym (slice_none c.args.bytes.now (omega arith) (λ h. omega arith) (λ h. omega arith) (λ h. omega arith))
+pub returns-in_default-2 : goal.returns-in_default-2
+returns-in_default-2 c = sym (slice_none c.args.bytes.now (omega arith) (λ h. omega arith) (λ h. omega arith) (λ h. omega arith))

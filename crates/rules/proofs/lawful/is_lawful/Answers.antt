@@ -30,6 +30,6 @@ pub returns-in-Dimension : goal.returns-in-Dimension
 unfolding is_lawful
 returns-in-Dimension c = search rules
 
-pub returns-in-default : goal.returns-in-default
+pub returns-in_default : goal.returns-in_default
 unfolding is_lawful
-returns-in-default c = search rules
+returns-in_default c = search rules

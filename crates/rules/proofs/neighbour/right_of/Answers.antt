@@ -18,6 +18,6 @@ pub returns-in-Delim : goal.returns-in-Delim
 unfolding right_of
 returns-in-Delim c = search rules
 
-pub returns-in-default : goal.returns-in-default
+pub returns-in_default : goal.returns-in_default
 unfolding right_of
-returns-in-default c = search rules
+returns-in_default c = search rules

@@ -7,6 +7,6 @@ pub returns-in-43 : goal.returns-in-43
 unfolding sign_length
 returns-in-43 c = grind (arith, nat_tests)
 
-pub returns-in-default : goal.returns-in-default
+pub returns-in_default : goal.returns-in_default
 unfolding sign_length
-returns-in-default c = grind (arith, nat_tests)
+returns-in_default c = grind (arith, nat_tests)

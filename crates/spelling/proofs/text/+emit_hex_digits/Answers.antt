@@ -14,13 +14,13 @@ returns-then-value-lt16 g t c =
     by (bytes_one c.hex_digit_lem.result ∙ ap (λ d. bytes_of (d ∷ [])) c.hex_digit_lem.ensures ∙ ap bytes_of (one_digit c.args.most c.args.value (omega arith) c.if-value-lt16.true))
     c.emit_code_point.ensures.steps
 
-pub returns-in-err-emit_hex_digits : goal.returns-in-err-emit_hex_digits
-returns-in-err-emit_hex_digits g t c =
+pub returns-in_err-emit_hex_digits : goal.returns-in_err-emit_hex_digits
+returns-in_err-emit_hex_digits g t c =
     by (ap bytes_of (last_digit c.args.most c.args.value (omega arith) c.if-value-lt16.false))
-    (cut_short c.from_residual.result (hex_digits (c.args.most - 1) (c.args.value / 16)) (hex_digit (c.args.value % 16) ∷ []) c.from_residual.ensures.1 c.in-err-emit_hex_digits.ensures)
+    (cut_short c.from_residual.result (hex_digits (c.args.most - 1) (c.args.value / 16)) (hex_digit (c.args.value % 16) ∷ []) c.from_residual.ensures.1 c.in_err-emit_hex_digits.ensures)
 
 pub returns : goal.returns
 returns g t c =
     by (ap bytes_of (last_digit c.args.most c.args.value (omega arith) c.if-value-lt16.false))
-    (and_then (hex_digits (c.args.most - 1) (c.args.value / 16)) (hex_digit (c.args.value % 16) ∷ []) c.in-ok-emit_hex_digits.ensures
+    (and_then (hex_digits (c.args.most - 1) (c.args.value / 16)) (hex_digit (c.args.value % 16) ∷ []) c.in_ok-emit_hex_digits.ensures
     (by (bytes_one c.hex_digit-2.result ∙ ap (λ d. bytes_of (d ∷ [])) c.hex_digit-2.ensures) c.emit_code_point-2.ensures.steps))

@@ -3,18 +3,18 @@ use Rattle.std.proofs.lemmas.Bool.Decides.{nat_tests}
 use Rattle.syntax.specs.Places.{is_control}
 use Rattle.spelling.proofs.text.is_control.Goals as goal
 
-pub returns-in-default : goal.returns-in-default
+pub returns-in_default : goal.returns-in_default
 unfolding is_control
-returns-in-default c = grind (arith, nat_tests)
+returns-in_default c = grind (arith, nat_tests)
 
-pub returns-in-default·2 : goal.returns-in-default·2
+pub returns-in_default-2 : goal.returns-in_default-2
 unfolding is_control
-returns-in-default·2 c = grind (arith, nat_tests)
+returns-in_default-2 c = grind (arith, nat_tests)
 
 pub returns-in-1-to-31 : goal.returns-in-1-to-31
 unfolding is_control
 returns-in-1-to-31 c = grind (arith, nat_tests)
 
-pub returns-in-1-to-31·2 : goal.returns-in-1-to-31·2
+pub returns-in-1-to-31-2 : goal.returns-in-1-to-31-2
 unfolding is_control
-returns-in-1-to-31·2 c = grind (arith, nat_tests)
+returns-in-1-to-31-2 c = grind (arith, nat_tests)

@@ -5,14 +5,14 @@ use Rattle.stream.proofs.emission.emit.Goals as goal
 pub loop-byte-preserved : goal.loop-byte-preserved
 loop-byte-preserved g c = λ r z e.
     c.loop-byte.invariant r z
-    (onward g.S.Sink.held g.S.Sink.takes c.args.bytes.now c.loop-byte.byte-index c.loop-byte-test.true c.in-ok-take.ensures e)
+    (onward g.S.Sink.held g.S.Sink.takes c.args.bytes.now c.loop-byte.byte-index c.loop-byte-test.true c.in_ok-take.ensures e)
 
-pub returns-in-err-take : goal.returns-in-err-take
-returns-in-err-take g c =
+pub returns-in_err-take : goal.returns-in_err-take
+returns-in_err-take g c =
     let p = err_from_is_err_and c.from_residual.result c.from_residual.ensures.1 in
     let whole =
     c.loop-byte.invariant _ _
-    (halted g.S.Sink.held g.S.Sink.takes c.args.bytes.now c.loop-byte.byte-index c.loop-byte-test.true c.in-err-take.ensures) in
+    (halted g.S.Sink.held g.S.Sink.takes c.args.bytes.now c.loop-byte.byte-index c.loop-byte-test.true c.in_err-take.ensures) in
     rw (p.1, p.2) record { steps = whole; outcome = outcome g.S.Sink.held g.S.Sink.takes _ whole }
 
 pub returns : goal.returns
