@@ -40,7 +40,7 @@ pub fn compare<P: Source, Q: Source, S: Sink, T: Sink>(
 
 /// A new writer over the sink, after these calls.
 fn run<S: Sink>(sink: S, calls: &[Call<'_>]) -> Writer<S>
-    ensures { RunFrom held takes sink (map call_of calls.now) result }
+    ensures { RunFrom S.Sink.held S.Sink.takes sink (map call_of calls.now) result }
 {
     let mut writer = Writer::new(sink);
     writer.replay(calls);

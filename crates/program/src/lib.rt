@@ -28,7 +28,7 @@ pub struct Formed<S> {
 
 /// Writes the normal form of a sheet into a sink, with cells for the texts of its tokens.
 pub fn normal_form<S: Sink>(sheet: &[u8], sink: S, cells: &mut [u32]) -> Formed<S>
-    ensures { Forms held takes sink sheet.now cells.old result.answer result.sink cells.new }
+    ensures { Forms S.Sink.held S.Sink.takes sink sheet.now cells.old result.answer result.sink cells.new }
 {
     if sheet.len() > INPUT_LIMIT {
         return Formed {

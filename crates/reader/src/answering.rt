@@ -13,7 +13,7 @@ use syntax::kind::Kind;
 
 /// The next token, the end or a refusal.
 pub fn answer_next<L: Lookahead>(input: &mut L, cells: &mut [u32]) -> Result<Next, Fault>
-    ensures { Answers (rest input.old) cells.old result cells.new (rest input.new) }
+    ensures { Answers (L.Lookahead.rest input.old) cells.old result cells.new (L.Lookahead.rest input.new) }
 {
     skip_comments(input);
     let seen = input.peek();

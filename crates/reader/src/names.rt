@@ -17,7 +17,7 @@ use syntax::kind::Kind;
 
 /// The name of a url or a bad url goes into no cell, so its first code points are held back, escapes resolved.
 pub fn read_ident_like<L: Lookahead>(input: &mut L, cells: &mut [u32]) -> Read
-    ensures { Reads cells.old (rest input.old) (ident_like_at (codes (rest input.old))) cells.new result (rest input.new) }
+    ensures { Reads cells.old (L.Lookahead.rest input.old) (ident_like_at (codes (L.Lookahead.rest input.old))) cells.new result (L.Lookahead.rest input.new) }
 {
     let held = hold(input);
     let seen = input.peek();
@@ -47,7 +47,7 @@ pub fn read_ident_like<L: Lookahead>(input: &mut L, cells: &mut [u32]) -> Read
 
 /// Behind the `(` of a function named url: the function where a quote comes, else a url.
 fn read_url_or_function<L: Lookahead>(input: &mut L, held: Held, cells: &mut [u32]) -> Read
-    ensures { Reads cells.old (rest input.old) (url_or_function (held_text held) (beyond in_extra_whitespace (codes (rest input.old)))) cells.new result (rest input.new) }
+    ensures { Reads cells.old (L.Lookahead.rest input.old) (url_or_function (held_text held) (beyond in_extra_whitespace (codes (L.Lookahead.rest input.old)))) cells.new result (L.Lookahead.rest input.new) }
 {
     skip_extra_whitespace(input);
     let seen = input.peek();
@@ -66,7 +66,7 @@ fn read_url_or_function<L: Lookahead>(input: &mut L, held: Held, cells: &mut [u3
 
 /// Up to three code points of an identifier.
 fn hold<L: Lookahead>(input: &mut L) -> Held
-    ensures { Holding (rest input.old) result (rest input.new) }
+    ensures { Holding (L.Lookahead.rest input.old) result (L.Lookahead.rest input.new) }
 {
     let first = name_one(input);
     let second = name_one(input);
@@ -80,7 +80,7 @@ fn hold<L: Lookahead>(input: &mut L) -> Held
 
 /// One code point of an identifier, if there is one.
 fn name_one<L: Lookahead>(input: &mut L) -> Option<u32>
-    ensures { Begun (rest input.old) result (rest input.new) }
+    ensures { Begun (L.Lookahead.rest input.old) result (L.Lookahead.rest input.new) }
 {
     let seen = input.peek();
     if is_ident(seen.first) {

@@ -13,7 +13,7 @@ use syntax::kind::Kind;
 
 /// A string, from behind its quote.
 pub fn read_string<L: Lookahead>(input: &mut L, quote: u32, cells: &mut [u32]) -> Read
-    ensures { Reads cells.old (rest input.old) (string_at quote (codes (rest input.old))) cells.new result (rest input.new) }
+    ensures { Reads cells.old (L.Lookahead.rest input.old) (string_at quote (codes (L.Lookahead.rest input.old))) cells.new result (L.Lookahead.rest input.new) }
 {
     let text = collect_string(input, quote, cells, EMPTY);
     let seen = input.peek();
@@ -36,7 +36,7 @@ pub fn read_string<L: Lookahead>(input: &mut L, quote: u32, cells: &mut [u32]) -
 
 /// A token whose text is an identifier.
 pub fn read_name<L: Lookahead>(input: &mut L, kind: Kind, mark: u32, cells: &mut [u32]) -> Read
-    ensures { Reads cells.old (rest input.old) (name_at kind mark (codes (rest input.old))) cells.new result (rest input.new) }
+    ensures { Reads cells.old (L.Lookahead.rest input.old) (name_at kind mark (codes (L.Lookahead.rest input.old))) cells.new result (L.Lookahead.rest input.new) }
 {
     let text = collect_name(input, cells, EMPTY);
     Read {
@@ -49,7 +49,7 @@ pub fn read_name<L: Lookahead>(input: &mut L, kind: Kind, mark: u32, cells: &mut
 
 /// A hash, from behind its `#`.
 pub fn read_hash<L: Lookahead>(input: &mut L, cells: &mut [u32]) -> Read
-    ensures { Reads cells.old (rest input.old) (hash_found (codes (rest input.old))) cells.new result (rest input.new) }
+    ensures { Reads cells.old (L.Lookahead.rest input.old) (hash_found (codes (L.Lookahead.rest input.old))) cells.new result (L.Lookahead.rest input.new) }
 {
     let seen = input.peek();
     if starts_ident(seen.first, seen.second, seen.third) {
@@ -60,7 +60,7 @@ pub fn read_hash<L: Lookahead>(input: &mut L, cells: &mut [u32]) -> Read
 
 /// From behind `@`: an at-keyword, or the sign.
 pub fn read_at<L: Lookahead>(input: &mut L, cells: &mut [u32]) -> Read
-    ensures { Reads cells.old (rest input.old) (at_found (codes (rest input.old))) cells.new result (rest input.new) }
+    ensures { Reads cells.old (L.Lookahead.rest input.old) (at_found (codes (L.Lookahead.rest input.old))) cells.new result (L.Lookahead.rest input.new) }
 {
     let seen = input.peek();
     if starts_ident(seen.first, seen.second, seen.third) {
@@ -71,7 +71,7 @@ pub fn read_at<L: Lookahead>(input: &mut L, cells: &mut [u32]) -> Read
 
 /// A number, a percentage or a dimension.
 pub fn read_number<L: Lookahead>(input: &mut L, cells: &mut [u32]) -> Read
-    ensures { Reads cells.old (rest input.old) (numeric_at (codes (rest input.old))) cells.new result (rest input.new) }
+    ensures { Reads cells.old (L.Lookahead.rest input.old) (numeric_at (codes (L.Lookahead.rest input.old))) cells.new result (L.Lookahead.rest input.new) }
 {
     let text = collect_number(input, cells, EMPTY);
     let seen = input.peek();
@@ -103,7 +103,7 @@ pub fn read_number<L: Lookahead>(input: &mut L, cells: &mut [u32]) -> Read
 
 /// A url, from its first code point that is no whitespace.
 pub fn read_url<L: Lookahead>(input: &mut L, cells: &mut [u32]) -> Read
-    ensures { Reads cells.old (rest input.old) (url_at (codes (rest input.old))) cells.new result (rest input.new) }
+    ensures { Reads cells.old (L.Lookahead.rest input.old) (url_at (codes (L.Lookahead.rest input.old))) cells.new result (L.Lookahead.rest input.new) }
 {
     let text = collect_url(input, cells, EMPTY);
     skip_whitespace(input);

@@ -14,7 +14,7 @@ use syntax::kind::Kind;
 
 /// A token, from its first code point. What it collects goes into the cells from the first on.
 pub fn read_token<L: Lookahead>(input: &mut L, cells: &mut [u32]) -> Read
-    ensures { Reads cells.old (rest input.old) (found_from (codes (rest input.old))) cells.new result (rest input.new) }
+    ensures { Reads cells.old (L.Lookahead.rest input.old) (found_from (codes (L.Lookahead.rest input.old))) cells.new result (L.Lookahead.rest input.new) }
 {
     let seen = input.peek();
     if is_whitespace(seen.first) {
@@ -54,7 +54,7 @@ pub fn read_token<L: Lookahead>(input: &mut L, cells: &mut [u32]) -> Read
 
 /// From behind `<`: `<!--`, or the sign.
 fn read_less<L: Lookahead>(input: &mut L) -> Read
-    ensures { (cells : List ℕ) → Reads cells (rest input.old) (less_found (codes (rest input.old))) cells result (rest input.new) }
+    ensures { (cells : List ℕ) → Reads cells (L.Lookahead.rest input.old) (less_found (codes (L.Lookahead.rest input.old))) cells result (L.Lookahead.rest input.new) }
 {
     let seen = input.peek();
     if is_comment_opening(seen.first, seen.second, seen.third) {
@@ -65,7 +65,7 @@ fn read_less<L: Lookahead>(input: &mut L) -> Read
 }
 
 fn skip_three<L: Lookahead>(input: &mut L)
-    ensures { rest input.new ≡ past 3 (rest input.old) }
+    ensures { L.Lookahead.rest input.new ≡ past 3 (L.Lookahead.rest input.old) }
 {
     input.bump();
     input.bump();

@@ -16,7 +16,7 @@ use codepoint::starts::{EOF, is_valid_escape};
 
 /// An identifier.
 pub fn collect_name<L: Lookahead>(input: &mut L, cells: &mut [u32], fill: Fill) -> Fill
-    ensures { Collects cells.old fill (rest input.old) (collect in_ident (codes (rest input.old))) (beyond in_ident (codes (rest input.old))) cells.new result (rest input.new) }
+    ensures { Collects cells.old fill (L.Lookahead.rest input.old) (collect in_ident (codes (L.Lookahead.rest input.old))) (beyond in_ident (codes (L.Lookahead.rest input.old))) cells.new result (L.Lookahead.rest input.new) }
 {
     let mut fill = fill;
     loop {
@@ -41,7 +41,7 @@ pub fn collect_string<L: Lookahead>(
     cells: &mut [u32],
     fill: Fill,
 ) -> Fill
-    ensures { Collects cells.old fill (rest input.old) (collect (in_string quote) (codes (rest input.old))) (beyond (in_string quote) (codes (rest input.old))) cells.new result (rest input.new) }
+    ensures { Collects cells.old fill (L.Lookahead.rest input.old) (collect (in_string quote) (codes (L.Lookahead.rest input.old))) (beyond (in_string quote) (codes (L.Lookahead.rest input.old))) cells.new result (L.Lookahead.rest input.new) }
 {
     let mut fill = fill;
     loop {
@@ -70,7 +70,7 @@ fn ends_string(quote: u32, c: u32) -> bool
 
 /// A url's text, up to whitespace, `)`, the end or what makes it bad.
 pub fn collect_url<L: Lookahead>(input: &mut L, cells: &mut [u32], fill: Fill) -> Fill
-    ensures { Collects cells.old fill (rest input.old) (collect in_url (codes (rest input.old))) (beyond in_url (codes (rest input.old))) cells.new result (rest input.new) }
+    ensures { Collects cells.old fill (L.Lookahead.rest input.old) (collect in_url (codes (L.Lookahead.rest input.old))) (beyond in_url (codes (L.Lookahead.rest input.old))) cells.new result (L.Lookahead.rest input.new) }
 {
     let mut fill = fill;
     loop {
@@ -97,7 +97,7 @@ fn ends_url(c: u32) -> bool
 
 /// Digits.
 pub fn collect_digits<L: Lookahead>(input: &mut L, cells: &mut [u32], fill: Fill) -> Fill
-    ensures { Collects cells.old fill (rest input.old) (collect (while is_digit) (codes (rest input.old))) (beyond (while is_digit) (codes (rest input.old))) cells.new result (rest input.new) }
+    ensures { Collects cells.old fill (L.Lookahead.rest input.old) (collect (while is_digit) (codes (L.Lookahead.rest input.old))) (beyond (while is_digit) (codes (L.Lookahead.rest input.old))) cells.new result (L.Lookahead.rest input.new) }
 {
     let mut fill = fill;
     loop {

@@ -12,8 +12,8 @@ const REPLACEMENT: u32 = 0xfffd;
 
 /// What an escape gives, from behind its backslash.
 pub fn escape<L: Lookahead>(input: &mut L) -> u32
-    ensures value { result ≡ (escaped (codes (rest input.old))).0 }
-    ensures left { rest input.new ≡ past (escaped (codes (rest input.old))).1 (rest input.old) }
+    ensures value { result ≡ (escaped (codes (L.Lookahead.rest input.old))).0 }
+    ensures left { L.Lookahead.rest input.new ≡ past (escaped (codes (L.Lookahead.rest input.old))).1 (L.Lookahead.rest input.old) }
 {
     let c = input.peek().first;
     if c == EOF {
@@ -28,8 +28,8 @@ pub fn escape<L: Lookahead>(input: &mut L) -> u32
 
 /// At most six hex digits, with one whitespace behind them if there is one.
 fn hex_escape<L: Lookahead>(input: &mut L) -> u32
-    ensures value { result ≡ (hex_escape 6 0 0 (codes (rest input.old))).0 }
-    ensures left { rest input.new ≡ past (hex_escape 6 0 0 (codes (rest input.old))).1 (rest input.old) }
+    ensures value { result ≡ (hex_escape 6 0 0 (codes (L.Lookahead.rest input.old))).0 }
+    ensures left { L.Lookahead.rest input.new ≡ past (hex_escape 6 0 0 (codes (L.Lookahead.rest input.old))).1 (L.Lookahead.rest input.old) }
 {
     let mut value = 0;
     let mut more = 6u32;

@@ -11,7 +11,7 @@ use codepoint::class::is_digit;
 
 /// A number: a sign and digits, a fraction, an exponent.
 pub fn collect_number<L: Lookahead>(input: &mut L, cells: &mut [u32], fill: Fill) -> Fill
-    ensures { Collects cells.old fill (rest input.old) (number_at (codes (rest input.old))).0 (number_at (codes (rest input.old))).1 cells.new result (rest input.new) }
+    ensures { Collects cells.old fill (L.Lookahead.rest input.old) (number_at (codes (L.Lookahead.rest input.old))).0 (number_at (codes (L.Lookahead.rest input.old))).1 cells.new result (L.Lookahead.rest input.new) }
 {
     let whole = collect_whole(input, cells, fill);
     let seen = input.peek();
@@ -24,7 +24,7 @@ pub fn collect_number<L: Lookahead>(input: &mut L, cells: &mut [u32], fill: Fill
 
 /// The sign, if there is one, and the digits.
 fn collect_whole<L: Lookahead>(input: &mut L, cells: &mut [u32], fill: Fill) -> Fill
-    ensures { Collects cells.old fill (rest input.old) (part (sign_length (slice_index (codes (rest input.old)) 0)) [] (codes (rest input.old))).0 (part (sign_length (slice_index (codes (rest input.old)) 0)) [] (codes (rest input.old))).1 cells.new result (rest input.new) }
+    ensures { Collects cells.old fill (L.Lookahead.rest input.old) (part (sign_length (slice_index (codes (L.Lookahead.rest input.old)) 0)) [] (codes (L.Lookahead.rest input.old))).0 (part (sign_length (slice_index (codes (L.Lookahead.rest input.old)) 0)) [] (codes (L.Lookahead.rest input.old))).1 cells.new result (L.Lookahead.rest input.new) }
 {
     let seen = input.peek();
     if sign_length(seen.first) == 0 {
@@ -37,8 +37,8 @@ fn collect_whole<L: Lookahead>(input: &mut L, cells: &mut [u32], fill: Fill) -> 
 /// So many code points and the digits behind them, or nothing.
 fn collect_part<L: Lookahead>(input: &mut L, count: u32, cells: &mut [u32], fill: Fill) -> Fill
     requires few { count ≤ 2 }
-    requires there { count ≤ length (codes (rest input.old)) }
-    ensures { Collects cells.old fill (rest input.old) (part_if_any count [] (codes (rest input.old))).0 (part_if_any count [] (codes (rest input.old))).1 cells.new result (rest input.new) }
+    requires there { count ≤ length (codes (L.Lookahead.rest input.old)) }
+    ensures { Collects cells.old fill (L.Lookahead.rest input.old) (part_if_any count [] (codes (L.Lookahead.rest input.old))).0 (part_if_any count [] (codes (L.Lookahead.rest input.old))).1 cells.new result (L.Lookahead.rest input.new) }
 {
     if count == 0 {
         return fill;
@@ -54,7 +54,7 @@ fn collect_part<L: Lookahead>(input: &mut L, count: u32, cells: &mut [u32], fill
 
 /// Past the next code point, with c into a cell.
 fn keep<L: Lookahead>(input: &mut L, c: u32, cells: &mut [u32], fill: Fill) -> Fill
-    ensures { Collects cells.old fill (rest input.old) (c ∷ []) (drop 1 (codes (rest input.old))) cells.new result (rest input.new) }
+    ensures { Collects cells.old fill (L.Lookahead.rest input.old) (c ∷ []) (drop 1 (codes (L.Lookahead.rest input.old))) cells.new result (L.Lookahead.rest input.new) }
 {
     input.bump();
     put(cells, fill, c)

@@ -10,7 +10,7 @@ use codepoint::starts::{EOF, is_valid_escape};
 
 /// All whitespace that comes.
 pub fn skip_whitespace<L: Lookahead>(input: &mut L)
-    ensures { Left (rest input.old) (past_whitespace (codes (rest input.old))) (rest input.new) }
+    ensures { Left (L.Lookahead.rest input.old) (past_whitespace (codes (L.Lookahead.rest input.old))) (L.Lookahead.rest input.new) }
 {
     loop {
         let seen = input.peek();
@@ -23,7 +23,7 @@ pub fn skip_whitespace<L: Lookahead>(input: &mut L)
 
 /// Whitespace while two stand next.
 pub fn skip_extra_whitespace<L: Lookahead>(input: &mut L)
-    ensures { Left (rest input.old) (beyond in_extra_whitespace (codes (rest input.old))) (rest input.new) }
+    ensures { Left (L.Lookahead.rest input.old) (beyond in_extra_whitespace (codes (L.Lookahead.rest input.old))) (L.Lookahead.rest input.new) }
 {
     loop {
         let seen = input.peek();
@@ -39,7 +39,7 @@ pub fn skip_extra_whitespace<L: Lookahead>(input: &mut L)
 
 /// The remnants of a bad url, up to the next `)` that is not escaped, or the end.
 pub fn skip_remnants<L: Lookahead>(input: &mut L)
-    ensures { Left (rest input.old) (beyond in_remnants (codes (rest input.old))) (rest input.new) }
+    ensures { Left (L.Lookahead.rest input.old) (beyond in_remnants (codes (L.Lookahead.rest input.old))) (L.Lookahead.rest input.new) }
 {
     loop {
         let seen = input.peek();
@@ -58,7 +58,7 @@ pub fn skip_remnants<L: Lookahead>(input: &mut L)
 
 /// Comment after comment.
 pub fn skip_comments<L: Lookahead>(input: &mut L)
-    ensures { Left (rest input.old) (past_comments (codes (rest input.old))) (rest input.new) }
+    ensures { Left (L.Lookahead.rest input.old) (past_comments (codes (L.Lookahead.rest input.old))) (L.Lookahead.rest input.new) }
 {
     loop {
         let seen = input.peek();
@@ -76,7 +76,7 @@ pub fn skip_comments<L: Lookahead>(input: &mut L)
 
 /// A comment from behind its `/*`, through its `*/` or to the end.
 fn skip_comment<L: Lookahead>(input: &mut L)
-    ensures { rest input.new ≡ past (2 + length (collect in_comment (codes (rest input.old)))) (rest input.old) }
+    ensures { L.Lookahead.rest input.new ≡ past (2 + length (collect in_comment (codes (L.Lookahead.rest input.old)))) (L.Lookahead.rest input.old) }
 {
     loop {
         let seen = input.peek();

@@ -27,14 +27,14 @@ fn bare_token(kind: Kind) -> Token<'static>
 
 /// Closes a block, which is the one way to let go of its slip.
 pub fn close_block<S: Sink>(writer: &mut Writer<S>, slip: Slip) -> Result<(), Fault>
-    ensures { Closes held takes writer.old slip.depth slip.kind result writer.new }
+    ensures { Closes S.Sink.held S.Sink.takes writer.old slip.depth slip.kind result writer.new }
 {
     writer.close(slip)
 }
 
 /// A token in a block. A refusal inside is answered only after the block is closed.
 pub fn write_block<S: Sink>(writer: &mut Writer<S>, token: Token<'_>) -> Result<(), Fault>
-    ensures { Writes held takes writer.old (bare OpenCurly ∷ value_of token.entry ∷ bare CloseCurly ∷ []) result writer.new }
+    ensures { Writes S.Sink.held S.Sink.takes writer.old (bare OpenCurly ∷ value_of token.entry ∷ bare CloseCurly ∷ []) result writer.new }
 {
     let slip = writer.open(bare_token(Kind::OpenCurly))?;
     let inside = writer.put(token);
@@ -44,7 +44,7 @@ pub fn write_block<S: Sink>(writer: &mut Writer<S>, token: Token<'_>) -> Result<
 
 /// Two empty blocks one after the other, each closed by its own slip.
 pub fn write_two_blocks<S: Sink>(writer: &mut Writer<S>) -> Result<(), Fault>
-    ensures { Writes held takes writer.old (bare OpenCurly ∷ bare CloseCurly ∷ bare OpenSquare ∷ bare CloseSquare ∷ []) result writer.new }
+    ensures { Writes S.Sink.held S.Sink.takes writer.old (bare OpenCurly ∷ bare CloseCurly ∷ bare OpenSquare ∷ bare CloseSquare ∷ []) result writer.new }
 {
     let mut first = Some(writer.open(bare_token(Kind::OpenCurly))?);
     writer.close(first.take().unwrap())?;

@@ -14,7 +14,7 @@ use syntax::place::Treatment;
 
 /// Code points as they are.
 pub(crate) fn emit_points<S: Sink>(sink: &mut S, points: &[u32]) -> Result<(), Fault>
-    ensures { Emits held takes sink.old (bytes_of points.now) result sink.new }
+    ensures { Emits S.Sink.held S.Sink.takes sink.old (bytes_of points.now) result sink.new }
 {
     for c in points {
         emit_code_point(sink, *c)?;
@@ -31,7 +31,7 @@ fn hex_digit(value: u32) -> u32
 
 /// The hex digits of a number without leading zeros, at most so many of them.
 fn emit_hex_digits<S: Sink>(sink: &mut S, most: u32, value: u32) -> Result<(), Fault>
-    ensures { Emits held takes sink.old (bytes_of (hex_digits most value)) result sink.new }
+    ensures { Emits S.Sink.held S.Sink.takes sink.old (bytes_of (hex_digits most value)) result sink.new }
 {
     if most == 0 {
         return Ok(());
@@ -45,7 +45,7 @@ fn emit_hex_digits<S: Sink>(sink: &mut S, most: u32, value: u32) -> Result<(), F
 
 /// A hex escape: the backslash, the digits, and a space.
 fn emit_hex<S: Sink>(sink: &mut S, c: u32) -> Result<(), Fault>
-    ensures { Emits held takes sink.old (bytes_of (hex c)) result sink.new }
+    ensures { Emits S.Sink.held S.Sink.takes sink.old (bytes_of (hex c)) result sink.new }
 {
     emit(sink, b"\\")?;
     emit_hex_digits(sink, 6, c)?;
@@ -54,7 +54,7 @@ fn emit_hex<S: Sink>(sink: &mut S, c: u32) -> Result<(), Fault>
 
 /// One code point by its treatment.
 fn emit_treated<S: Sink>(sink: &mut S, how: Treatment, c: u32) -> Result<(), Fault>
-    ensures { Emits held takes sink.old (bytes_of (escaped how c)) result sink.new }
+    ensures { Emits S.Sink.held S.Sink.takes sink.old (bytes_of (escaped how c)) result sink.new }
 {
     match how {
         Treatment::Stay => emit_code_point(sink, c),
@@ -74,7 +74,7 @@ fn is_control(c: u32) -> bool
 
 /// In each place controls become hex; all else is the place's own affair.
 fn treated<P: SpellingPlace>(text: &[u32], at: usize, c: u32) -> Treatment
-    ensures { result ≡ treatment place text.now at c }
+    ensures { result ≡ treatment P.SpellingPlace.place text.now at c }
 {
     if is_control(c) {
         Treatment::Hex
@@ -89,7 +89,7 @@ fn emit_escaped<P: SpellingPlace, S: Sink>(
     text: &[u32],
     from: usize,
 ) -> Result<(), Fault>
-    ensures { Emits held takes sink.old (bytes_of (escaped_from (treatment place text.now) from (drop from text.now))) result sink.new }
+    ensures { Emits S.Sink.held S.Sink.takes sink.old (bytes_of (escaped_from (treatment P.SpellingPlace.place text.now) from (drop from text.now))) result sink.new }
 {
     for at in from..text.len() {
         let c = text[at];
@@ -100,7 +100,7 @@ fn emit_escaped<P: SpellingPlace, S: Sink>(
 
 /// A text in any place, into any sink.
 pub fn emit_text<P: SpellingPlace, S: Sink>(sink: &mut S, text: &[u32]) -> Result<(), Fault>
-    ensures { Emits held takes sink.old (bytes_of (spelled_in place text.now)) result sink.new }
+    ensures { Emits S.Sink.held S.Sink.takes sink.old (bytes_of (spelled_in P.SpellingPlace.place text.now)) result sink.new }
 {
     emit(sink, P::opener())?;
     emit_escaped::<P, S>(sink, text, 0)?;
@@ -135,7 +135,7 @@ fn needs_hex(number: &[u32], unit: &[u32]) -> bool
 
 /// A unit behind a number: an identifier, whose first `e` becomes hex where it would be read as an exponent.
 pub(crate) fn emit_unit<S: Sink>(sink: &mut S, number: &[u32], unit: &[u32]) -> Result<(), Fault>
-    ensures { Emits held takes sink.old (bytes_of (spelled_in (unit_behind number.now) unit.now)) result sink.new }
+    ensures { Emits S.Sink.held S.Sink.takes sink.old (bytes_of (spelled_in (unit_behind number.now) unit.now)) result sink.new }
 {
     if needs_hex(number, unit) {
         emit_hex(sink, point_at(unit, 0))?;

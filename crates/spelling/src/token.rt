@@ -15,7 +15,7 @@ use syntax::waiting::Waiting;
 
 /// A token, where `waiting` is awaited. A bad token is spelled as nothing.
 pub fn emit_token<S: Sink>(sink: &mut S, waiting: Waiting, token: Token<'_>) -> Result<(), Fault>
-    ensures { Emits held takes sink.old (bytes_of (spelled waiting (value_of token.entry))) result sink.new }
+    ensures { Emits S.Sink.held S.Sink.takes sink.old (bytes_of (spelled waiting (value_of token.entry))) result sink.new }
 {
     match token.kind {
         Kind::Ident => emit_text::<crate::place::Identifier, S>(sink, token.text),
@@ -55,21 +55,21 @@ fn blank_of(waiting: Waiting) -> u32
 }
 
 fn emit_function<S: Sink>(sink: &mut S, name: &[u32]) -> Result<(), Fault>
-    ensures { Emits held takes sink.old (bytes_of (spelled_in identifier name.now ++ codes "(")) result sink.new }
+    ensures { Emits S.Sink.held S.Sink.takes sink.old (bytes_of (spelled_in identifier name.now ++ codes "(")) result sink.new }
 {
     emit_text::<crate::place::Identifier, S>(sink, name)?;
     emit(sink, b"(")
 }
 
 fn emit_at_keyword<S: Sink>(sink: &mut S, name: &[u32]) -> Result<(), Fault>
-    ensures { Emits held takes sink.old (bytes_of (codes "@" ++ spelled_in identifier name.now)) result sink.new }
+    ensures { Emits S.Sink.held S.Sink.takes sink.old (bytes_of (codes "@" ++ spelled_in identifier name.now)) result sink.new }
 {
     emit(sink, b"@")?;
     emit_text::<crate::place::Identifier, S>(sink, name)
 }
 
 fn emit_hash<S: Sink>(sink: &mut S, mark: u32, text: &[u32]) -> Result<(), Fault>
-    ensures { Emits held takes sink.old (bytes_of (codes "#" ++ spelled_in (hash_place mark) text.now)) result sink.new }
+    ensures { Emits S.Sink.held S.Sink.takes sink.old (bytes_of (codes "#" ++ spelled_in (hash_place mark) text.now)) result sink.new }
 {
     emit(sink, b"#")?;
     if mark == 1 {
@@ -80,14 +80,14 @@ fn emit_hash<S: Sink>(sink: &mut S, mark: u32, text: &[u32]) -> Result<(), Fault
 }
 
 fn emit_percentage<S: Sink>(sink: &mut S, number: &[u32]) -> Result<(), Fault>
-    ensures { Emits held takes sink.old (bytes_of (number.now ++ codes "%")) result sink.new }
+    ensures { Emits S.Sink.held S.Sink.takes sink.old (bytes_of (number.now ++ codes "%")) result sink.new }
 {
     emit_points(sink, number)?;
     emit(sink, b"%")
 }
 
 fn emit_dimension<S: Sink>(sink: &mut S, number: &[u32], unit: &[u32]) -> Result<(), Fault>
-    ensures { Emits held takes sink.old (bytes_of (number.now ++ spelled_in (unit_behind number.now) unit.now)) result sink.new }
+    ensures { Emits S.Sink.held S.Sink.takes sink.old (bytes_of (number.now ++ spelled_in (unit_behind number.now) unit.now)) result sink.new }
 {
     emit_points(sink, number)?;
     emit_unit(sink, number, unit)

@@ -8,8 +8,8 @@ use refusal::Fault;
 
 /// Gives the bytes to the sink, and stops at the first refused one.
 pub fn emit<S: Sink>(sink: &mut S, bytes: &[u8]) -> Result<(), Fault>
-    ensures steps { Emits held takes sink.old bytes.now result sink.new }
-    ensures outcome { Outcome held takes sink.old bytes.now result sink.new }
+    ensures steps { Emits S.Sink.held S.Sink.takes sink.old bytes.now result sink.new }
+    ensures outcome { Outcome S.Sink.held S.Sink.takes sink.old bytes.now result sink.new }
 {
     for byte in bytes {
         sink.take(*byte)?;
@@ -19,8 +19,8 @@ pub fn emit<S: Sink>(sink: &mut S, bytes: &[u8]) -> Result<(), Fault>
 
 /// Gives a code point's UTF-8 bytes to the sink, and stops at the first refused one.
 pub fn emit_code_point<S: Sink>(sink: &mut S, c: u32) -> Result<(), Fault>
-    ensures steps { Emits held takes sink.old (utf8 c) result sink.new }
-    ensures outcome { Outcome held takes sink.old (utf8 c) result sink.new }
+    ensures steps { Emits S.Sink.held S.Sink.takes sink.old (utf8 c) result sink.new }
+    ensures outcome { Outcome S.Sink.held S.Sink.takes sink.old (utf8 c) result sink.new }
 {
     if c < 0x80 {
         return sink.take(c as u8);

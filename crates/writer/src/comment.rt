@@ -29,7 +29,7 @@ pub(crate) fn emit_added<S: Sink>(
     waiting: Waiting,
     token: Token<'_>,
 ) -> Result<(), Fault>
-    ensures { Emits held takes sink.old (bytes_of ((if due then commentText else []) ++ spelled waiting (value_of token.entry))) result sink.new }
+    ensures { Emits S.Sink.held S.Sink.takes sink.old (bytes_of ((if due then commentText else []) ++ spelled waiting (value_of token.entry))) result sink.new }
 {
     if due {
         emit(sink, b"/**/")?;

@@ -10,7 +10,7 @@ use stream::Sink;
 impl<S: Sink> Writer<S> {
     /// One call. A slip that it gives is spent here: close is called with the slip's numbers.
     pub fn call(&mut self, call: Call<'_>) -> Result<(), Fault>
-        ensures { Makes held takes self.old (call_of call.entry) result self.new }
+        ensures { Makes S.Sink.held S.Sink.takes self.old (call_of call.entry) result self.new }
     {
         match call {
             Call::Put(token) => self.put(token),
@@ -29,7 +29,7 @@ impl<S: Sink> Writer<S> {
 
     /// Makes the calls one after another, whatever each answers.
     pub fn replay(&mut self, calls: &[Call<'_>])
-        ensures { RunOf held takes self.old (map call_of calls.now) self.new }
+        ensures { RunOf S.Sink.held S.Sink.takes self.old (map call_of calls.now) self.new }
     {
         for call in calls {
             let _ = self.call(*call);

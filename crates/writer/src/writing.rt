@@ -61,7 +61,7 @@ impl<S: Sink> Writer<S> {
     fn add(&mut self, token: Token<'_>, depth: usize, kinds: [u8; 32]) -> Result<(), Fault>
         requires room { self.old.state.accepted + 1 + depth ≤ 1000000 }
         requires shallow { depth ≤ 32 }
-        ensures { Adds held takes self.old (value_of token.entry) depth kinds result self.new }
+        ensures { Adds S.Sink.held S.Sink.takes self.old (value_of token.entry) depth kinds result self.new }
     {
         let state = self.state;
         let due = is_due(state.left, token);
@@ -79,7 +79,7 @@ impl<S: Sink> Writer<S> {
 
     /// Writes a token. While a block is open, functions and brackets go by `open` and `close`.
     pub fn put(&mut self, token: Token<'_>) -> Result<(), Fault>
-        ensures { Puts held takes self.old (value_of token.entry) result self.new }
+        ensures { Puts S.Sink.held S.Sink.takes self.old (value_of token.entry) result self.new }
     {
         let state = self.state;
         state.admit_put(token)?;
@@ -88,7 +88,7 @@ impl<S: Sink> Writer<S> {
 
     /// Writes a token that opens a block, and gives the slip that closes it.
     pub fn open(&mut self, token: Token<'_>) -> Result<Slip, Fault>
-        ensures { Opens held takes self.old (value_of token.entry) result self.new }
+        ensures { Opens S.Sink.held S.Sink.takes self.old (value_of token.entry) result self.new }
     {
         let state = self.state;
         state.admit_open(token)?;
@@ -102,7 +102,7 @@ impl<S: Sink> Writer<S> {
 
     /// Closes the innermost open block with its slip, which is spent even if this is refused.
     pub fn close(&mut self, mut slip: Slip) -> Result<(), Fault>
-        ensures { Closes held takes self.old slip.depth slip.kind result self.new }
+        ensures { Closes S.Sink.held S.Sink.takes self.old slip.depth slip.kind result self.new }
     {
         let depth = slip.depth;
         let kind = slip.kind;
@@ -114,7 +114,7 @@ impl<S: Sink> Writer<S> {
 
     /// Ends the writing: answers the numbers of accepted tokens and of comments.
     pub fn finish(&mut self) -> Result<(usize, usize), Fault>
-        ensures { Finishes held takes self.old result self.new }
+        ensures { Finishes S.Sink.held S.Sink.takes self.old result self.new }
     {
         let state = self.state;
         state.admit_finish()?;

@@ -15,7 +15,7 @@ pub overflow_add-self : goal.overflow_add-self
 overflow_add-self c = let h = ends-inside c in search rules
 
 pub invariant_of-self : goal.invariant_of-self
-invariant_of-self c = (ends-inside c, tt)
+invariant_of-self c = record { inside = ends-inside c }
 
 pub returns-in-Empty : goal.returns-in-Empty
 returns-in-Empty c = bytes_at_end c.args.self.now.at (drop c.args.self.now.at c.args.self.now.bytes.now) (ap decoded (sym (left_of_slice c.args.self.now.at c.args.self.now.bytes.now)) ∙ sym c.in-Empty.ensures)
