@@ -4,7 +4,7 @@ ghost use Rattle.stream.specs.Sinks.{Emits};
 ghost use Rattle.syntax.specs.Neighbours.{apart, right_of};
 ghost use Rattle.syntax.specs.Spelling.{spelled};
 ghost use Rattle.syntax.specs.Tokens.{value_of};
-ghost use Rattle.syntax.specs.Written.{comment as commentText};
+ghost use Rattle.syntax.specs.Written.{comment as comment_text};
 ghost use Rattle.std.specs.Prelude.{◌≡◌, [], ◌++◌, if◌then◌else◌};
 
 use refusal::Fault;
@@ -29,7 +29,7 @@ pub(crate) fn emit_added<S: Sink>(
     waiting: Waiting,
     token: Token<'_>,
 ) -> Result<(), Fault>
-    ensures { Emits S.Sink.held S.Sink.takes sink.old (bytes_of ((if due then commentText else []) ++ spelled waiting (value_of token.entry))) result sink.new }
+    ensures { Emits S.Sink.held S.Sink.takes sink.old (bytes_of ((if due then comment_text else []) ++ spelled waiting (value_of token.entry))) result sink.new }
 {
     if due {
         emit(sink, b"/**/")?;
