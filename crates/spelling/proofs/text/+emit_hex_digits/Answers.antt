@@ -11,7 +11,7 @@ returns-then-most-eq0 g t c = by (ap bytes_of (sym (no_digits c.args.value) ∙ 
 
 pub returns-then-value-lt16 : goal.returns-then-value-lt16
 returns-then-value-lt16 g t c =
-    by (bytes_one c.hex_digit_lem.result ∙ ap (λ d. bytes_of (d ∷ [])) c.hex_digit_lem.ensures ∙ ap bytes_of (one_digit c.args.most c.args.value (omega arith) c.if-value-lt16.true))
+    by (bytes_one c.hex_digit.result ∙ ap (λ d. bytes_of (d ∷ [])) c.hex_digit.ensures ∙ ap bytes_of (one_digit c.args.most c.args.value (omega arith) c.if-value-lt16.true))
     c.emit_code_point.ensures.steps
 
 pub returns-in_err-emit_hex_digits : goal.returns-in_err-emit_hex_digits

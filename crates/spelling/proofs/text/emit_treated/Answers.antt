@@ -10,13 +10,13 @@ pub returns-in-Stay : goal.returns-in-Stay
 returns-in-Stay g c =
     by (bytes_one c.args.c ∙ ap (λ t. bytes_of (escaped t c.args.c)) (sym c.in-Stay.is)) c.emit_code_point.ensures.steps
 
-pub returns-in_err-emit : goal.returns-in_err-emit
-returns-in_err-emit g c =
+pub returns-in_err-emit-in-Backslash : goal.returns-in_err-emit-in-Backslash
+returns-in_err-emit-in-Backslash g c =
     by (ap (λ t. bytes_of (escaped t c.args.c)) (sym c.in-Backslash.is))
-    (cut_short c.from_residual.result (backslash ∷ []) (c.args.c ∷ []) c.from_residual.ensures.1 (by (bytes_ascii (backslash ∷ []) refl) c.in_err-emit.ensures.steps))
+    (cut_short c.from_residual.result (backslash ∷ []) (c.args.c ∷ []) c.from_residual.ensures.1 (by (bytes_ascii (backslash ∷ []) refl) c.in_err-emit-in-Backslash.ensures.steps))
 
-pub returns-in_ok-emit : goal.returns-in_ok-emit
-returns-in_ok-emit g c =
+pub returns-in_ok-emit-in-Backslash : goal.returns-in_ok-emit-in-Backslash
+returns-in_ok-emit-in-Backslash g c =
     by (ap (λ t. bytes_of (escaped t c.args.c)) (sym c.in-Backslash.is))
-    (and_then (backslash ∷ []) (c.args.c ∷ []) (by (bytes_ascii (backslash ∷ []) refl) c.in_ok-emit.ensures.steps)
+    (and_then (backslash ∷ []) (c.args.c ∷ []) (by (bytes_ascii (backslash ∷ []) refl) c.in_ok-emit-in-Backslash.ensures.steps)
     (by (bytes_one c.args.c) c.emit_code_point-in-Backslash.ensures.steps))

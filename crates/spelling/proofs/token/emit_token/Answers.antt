@@ -20,10 +20,10 @@ pub returns-in-Hash : goal.returns-in-Hash
 returns-in-Hash g c = of_kind Hash c.args.waiting (value_of c.args.token) c.in-Hash.is c.emit_hash.ensures
 
 pub returns-in-QuotedString : goal.returns-in-QuotedString
-returns-in-QuotedString g c = of_kind QuotedString c.args.waiting (value_of c.args.token) c.in-QuotedString.is c.emit-text_in-QuotedString.ensures
+returns-in-QuotedString g c = of_kind QuotedString c.args.waiting (value_of c.args.token) c.in-QuotedString.is c.emit_text-in-QuotedString.ensures
 
 pub returns-in-Url : goal.returns-in-Url
-returns-in-Url g c = of_kind Url c.args.waiting (value_of c.args.token) c.in-Url.is c.emit-text_in-Url.ensures
+returns-in-Url g c = of_kind Url c.args.waiting (value_of c.args.token) c.in-Url.is c.emit_text-in-Url.ensures
 
 pub returns-in-Number : goal.returns-in-Number
 returns-in-Number g c = of_kind Number c.args.waiting (value_of c.args.token) c.in-Number.is c.emit_points.ensures

@@ -8,7 +8,7 @@ use Rattle.scan.proofs.window.Window.fill.Goals as goal
 pub invariant_of-self : goal.invariant_of-self
 invariant_of-self g c =
     let t = topped_tight _ _ _ _ _ _ _ _ _ _ c.args.self.now.in_order.0 c.args.self.now.in_order.1 c.top_up-first.ensures.list c.top_up-second.ensures.list c.top_up-third.ensures.list in
-    ((λ e. (t.first e).1, t.second), tt)
+    record { in_order = (λ e. (t.first e).1, t.second) }
 
 pub returns : goal.returns
 returns g c =
