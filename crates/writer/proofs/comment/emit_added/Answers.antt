@@ -6,7 +6,7 @@ use Rattle.syntax.specs.Written.{comment}
 use Rattle.spelling.proofs.Bytes.{bytes_ascii}
 use Rattle.spelling.proofs.Emissions.{by, and_then, cut_short}
 use Rattle.writer.proofs.comment.emit_added.Goals as goal
-use Rattle.writer.proofs.comment.emit_added.Goals.{then-due+in-ok-emit, else-due}
+use Rattle.writer.proofs.comment.emit_added.Goals.{then-due+in_ok-emit, else-due}
 
 due_is : (due v : Bool) (xs : List ℕ) → due ≡ v → bytes_of (cond v comment [] ++ xs) ≡ bytes_of (cond due comment [] ++ xs)
 due_is due v xs e = ap (λ b. bytes_of (cond b comment [] ++ xs)) (sym e)
@@ -20,7 +20,7 @@ returns-in_err-emit g c =
 pub returns : goal.returns
 returns g c =
     elim c.if-due.branch [
-      | then-due+in-ok-emit w ↦
+      | then-due+in_ok-emit w ↦
           by (due_is c.args.due true (spelled c.args.waiting (value_of c.args.token)) w.if-due.true)
           (and_then comment (spelled c.args.waiting (value_of c.args.token)) (by (bytes_ascii comment refl) w.in_ok-emit.ensures.steps) (rw w.sink-is at c.emit_token.ensures))
       | else-due w ↦

@@ -11,28 +11,28 @@ pub returns-in-Close : goal.returns-in-Close
 returns-in-Close g c =
     record { deed = did_close c.in-Close.depth c.in-Close.kind c.close.result; of_call = sym (ap call_of c.in-Close.is); answers = refl; does = c.close.ensures }
 
-pub returns-in_err-slip : goal.returns-in_err-slip
-returns-in_err-slip g c =
+pub returns-in_err-slip-in-Open : goal.returns-in_err-slip-in-Open
+returns-in_err-slip-in-Open g c =
     record {
-      deed = did_open (value_of c.in-Open.token) (Err c.in_err-slip.field-0.0);
+      deed = did_open (value_of c.in-Open.token) (Err c.in_err-slip-in-Open.field-0.0);
       of_call = sym (ap call_of c.in-Open.is);
-      answers = answers_fault c.in_err-slip.field-0.0 c.from_residual.result c.from_residual.ensures.1;
-      does = c.in_err-slip.ensures;
+      answers = answers_fault c.in_err-slip-in-Open.field-0.0 c.from_residual.result c.from_residual.ensures.1;
+      does = c.in_err-slip-in-Open.ensures;
     }
 
-pub returns-in_ok-slip : goal.returns-in_ok-slip
-returns-in_ok-slip g c =
-    record { deed = did_open (value_of c.in-Open.token) (Ok c.in_ok-slip.slip); of_call = sym (ap call_of c.in-Open.is); answers = refl; does = c.in_ok-slip.ensures }
+pub returns-in_ok-slip-in-Open : goal.returns-in_ok-slip-in-Open
+returns-in_ok-slip-in-Open g c =
+    record { deed = did_open (value_of c.in-Open.token) (Ok c.in_ok-slip-in-Open.slip); of_call = sym (ap call_of c.in-Open.is); answers = refl; does = c.in_ok-slip-in-Open.ensures }
 
-pub returns-in_err-finish : goal.returns-in_err-finish
-returns-in_err-finish g c =
+pub returns-in_err-finish-in-Finish : goal.returns-in_err-finish-in-Finish
+returns-in_err-finish-in-Finish g c =
     record {
-      deed = did_finish (Err c.in_err-finish.field-0.0);
+      deed = did_finish (Err c.in_err-finish-in-Finish.field-0.0);
       of_call = sym (ap call_of c.in-Finish.is);
-      answers = answers_fault c.in_err-finish.field-0.0 c.from_residual-in_err-finish.result c.from_residual-in_err-finish.ensures.1;
-      does = c.in_err-finish.ensures;
+      answers = answers_fault c.in_err-finish-in-Finish.field-0.0 c.from_residual-in_err-finish-in-Finish.result c.from_residual-in_err-finish-in-Finish.ensures.1;
+      does = c.in_err-finish-in-Finish.ensures;
     }
 
-pub returns-in_ok-finish : goal.returns-in_ok-finish
-returns-in_ok-finish g c =
-    record { deed = did_finish (Ok c.in_ok-finish.field-0); of_call = sym (ap call_of c.in-Finish.is); answers = refl; does = c.in_ok-finish.ensures }
+pub returns-in_ok-finish-in-Finish : goal.returns-in_ok-finish-in-Finish
+returns-in_ok-finish-in-Finish g c =
+    record { deed = did_finish (Ok c.in_ok-finish-in-Finish.field-0); of_call = sym (ap call_of c.in-Finish.is); answers = refl; does = c.in_ok-finish-in-Finish.ensures }
