@@ -2,24 +2,24 @@
 //! `fault NUMBER LAYER PLACE` to standard error and ends with status 1.
 #![tactic(auto)]
 
-use anyhow::anyhow;
 use program::{Formed, INPUT_LIMIT, OUTPUT_CELLS, TEXT_CELLS, normal_form};
 use std::env;
 use std::io::{Read, Write};
+use std::process::ExitCode;
 use stream::{BufferSink, Sink};
 
 const HELP: &'static str = "usage: norm < SHEET > NORMAL_FORM
 Writes the normal form of a style sheet of at most 32768 bytes of UTF-8. A refusal is one line on standard error,
 'fault NUMBER LAYER PLACE', with status 1 and nothing on standard output.";
 
-fn main(rt: HostRuntime) -> anyhow::Result<()> {
+fn main(rt: HostRuntime) -> anyhow::Result<ExitCode> {
     if let Some(word) = env::args(&rt)?.nth(1) {
         if word.as_str() == "--help" {
             rt.println(HELP)?;
-            return Ok(());
+            return Ok(ExitCode::SUCCESS);
         }
         eprintln!(rt; "norm: unknown argument {word}; see norm --help")?;
-        return Err(anyhow!("unknown argument"));
+        return Ok(ExitCode::FAILURE);
     }
     let heap = rt.alloc();
     let mut sheet = Vec::new(heap);
@@ -33,11 +33,11 @@ fn main(rt: HostRuntime) -> anyhow::Result<()> {
     match answer {
         Ok(_) => {
             rt.stdout().write_all(sink.bytes())?;
-            Ok(())
+            Ok(ExitCode::SUCCESS)
         }
         Err(fault) => {
             eprintln!(rt; "{fault}")?;
-            Err(anyhow!("refused"))
+            Ok(ExitCode::FAILURE)
         }
     }
 }
