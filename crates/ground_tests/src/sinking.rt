@@ -9,7 +9,7 @@ fn full_buffer(rt: HostRuntime) -> Result<(), Fail> {
     // U+00E9 has two bytes, so its second finds no cell
     assert_eq!(rt; sink.take(97), Ok(()));
     assert_eq!(rt; emit_code_point(&mut sink, 0xe9), Err(Fault::NotTaken(2)));
-    assert_eq!(rt; sink.bytes(), b"a\xc3");
+    assert_eq!(rt; sink.bytes(), b"a\xc3".as_slice());
     assert_eq!(rt; sink.take(98), Err(Fault::NotTaken(2)));
     Ok(())
 }

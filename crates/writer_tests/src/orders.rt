@@ -82,7 +82,7 @@ fn put_refusals(rt: HostRuntime) -> Result<(), Fail> {
         Err(Fault::OutOfTurn(5))
     );
     let sink = writer.into_sink();
-    assert_eq!(rt; sink.bytes(), b"{\\\nUrl( ");
+    assert_eq!(rt; sink.bytes(), b"{\\\nUrl( ".as_slice());
     Ok(())
 }
 

@@ -41,6 +41,6 @@ fn whole_comment_is_counted(rt: HostRuntime) -> Result<(), Fail> {
     assert_eq!(rt; writer.put(ident(&[0x62])), Ok(()));
     assert_eq!(rt; writer.finish(), Ok((2, 1)));
     let sink = writer.into_sink();
-    assert_eq!(rt; sink.bytes(), b"a/**/b");
+    assert_eq!(rt; sink.bytes(), b"a/**/b".as_slice());
     Ok(())
 }
