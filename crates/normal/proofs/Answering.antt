@@ -1,11 +1,11 @@
 -- Every call is answered by the rules: refused by the first that applies, or its bytes go to the sink.
-use Rattle.std.proofs.Common.{◌≡◌, ℕ, Bool, List, [], Some, Ok, Err, Result, sym, refl, ap, ◌∙◌, subst, append-nil, arith}
+use Rattle.std.proofs.Common.{◌≡◌, ℕ, Bool, List, Some, Ok, Err, Result, sym, refl, ap, ◌∙◌, append-nil, arith}
 use Rattle.refusal.specs.declared.fault.Fault.{Fault}
 use Rattle.stream.proofs.Emitting.{outcome}
 use Rattle.syntax.specs.Tokens.{TokenValue}
 use Rattle.writer.specs.declared.writing.Writer.{Writer}
 use Rattle.writer.specs.Refusals.{first_of}
-use Rattle.writer.specs.Runs.{Deed, Does}
+use Rattle.writer.specs.Runs.{Deed}
 use Rattle.writer.specs.Runs.Deed.{did_put, did_open, did_close, did_finish}
 use Rattle.writer.specs.Writes.{Adds, bytes_added}
 use Rattle.writer.specs.Writes.Adds.{whole, broken}

@@ -1,28 +1,27 @@
 -- Normalize is refused only for the source's fault, a text that outgrows the cells, a bad token, want of room, or by the sink:
 -- what the reader yields is lawful or bad and comes in turn, and the writer that it goes into has no block open.
-use Rattle.std.proofs.Common.{◌≡◌, ℕ, ◌+◌, Bool, true, false, cond, not, ◌&&◌, ◌||◌, ltb, leb, ◌⊎◌, List, [], ◌∷◌, map, is_some, IfErr, Some, None, Ok, Err, Result, unwrap_or, sym, refl, ap, ◌∙◌, subst, inl, inr, ⊎_elim, arith}
+use Rattle.std.proofs.Common.{◌≡◌, ℕ, ◌+◌, Bool, true, false, cond, not, ◌&&◌, ltb, leb, List, [], ◌∷◌, map, is_some, IfErr, None, Ok, Err, Result, sym, refl, ap, ◌∙◌, subst, inl, inr, ⊎_elim, arith}
 use Rattle.std.proofs.lemmas.Bool.{and_parts, and_left, cond-true, cond-false, or_parts}
 use Rattle.std.proofs.lemmas.Bool.Decides.{nat_tests}
 use Rattle.refusal.specs.declared.fault.Fault.{Fault}
-use Rattle.refusal.specs.declared.fault.Fault.TheVariants.{Outgrown, NotTaken, BadToken, NoRoom, Finished, Unlawful, BlockOpen, OutOfTurn, RepeatedWhitespace, Unclosed}
+use Rattle.refusal.specs.declared.fault.Fault.TheVariants.{BadToken, NoRoom}
 use Rattle.codepoint.specs.Utf8.{code_points_of}
 use Rattle.stream.specs.Preprocess.{AllWithin, Placed, preprocessed}
 use Rattle.stream.specs.Sources.{Ending}
-use Rattle.stream.specs.Sources.Ending.{stops}
 use Rattle.stream.proofs.Emitting.{outcome}
 use Rattle.stream.proofs.Preprocessing.{cleans}
 use Rattle.syntax.specs.declared.kind.Kind.{Kind}
-use Rattle.syntax.specs.declared.kind.Kind.TheVariants.{BadString, BadUrl, Delim, Function, QuotedString, Whitespace}
+use Rattle.syntax.specs.declared.kind.Kind.TheVariants.{BadString, Delim, Function, QuotedString, Whitespace}
 use Rattle.syntax.specs.declared.waiting.Waiting.{Waiting}
-use Rattle.syntax.specs.declared.waiting.Waiting.TheVariants.{Free, AfterBackslash, AfterUrl, AfterUrlWhitespace}
-use Rattle.syntax.specs.Kinds.{is_bad_kind, number_of, same_kind}
+use Rattle.syntax.specs.declared.waiting.Waiting.TheVariants.{Free, AfterUrlWhitespace}
+use Rattle.syntax.specs.Kinds.{same_kind}
 use Rattle.syntax.specs.Laws.{LawfulOrBad}
 use Rattle.syntax.specs.Lawful.{is_lawful}
 use Rattle.syntax.specs.Pieces.{Piece}
 use Rattle.syntax.specs.Points.{backslash}
 use Rattle.syntax.specs.Puts.{is_whitespace_left}
 use Rattle.syntax.specs.Reading.{Yields, next}
-use Rattle.syntax.specs.Reading.Next.{end, token}
+use Rattle.syntax.specs.Reading.Next.{token}
 use Rattle.syntax.specs.Tokens.{TokenValue, bare, is_bad, is_delim, is_kind}
 use Rattle.syntax.specs.Turn.{InTurn, is_after_url, is_in_turn, is_url_function, mended, waiting_after}
 use Rattle.syntax.specs.Written.{Each}
@@ -40,11 +39,11 @@ use Rattle.writer.specs.declared.writing.Writer.{Writer}
 use Rattle.writer.specs.Blocks.{is_block_sign}
 use Rattle.writer.specs.Refusals.{finish_refusals, first_of, is_free, put_refusals}
 use Rattle.writer.specs.States.{Advanced, Fresh}
-use Rattle.writer.specs.Writes.{Adds, Finishes, Puts}
+use Rattle.writer.specs.Writes.{Adds, Puts}
 use Rattle.writer.specs.Writes.Adds.{whole, broken}
 use Rattle.writer.specs.Writes.Finishes.{finish_refused}
 use Rattle.writer.specs.Writes.Puts.{put_refused, put_added}
-use Rattle.writer.proofs.Admitted.{clash, put_lets_through}
+use Rattle.writer.proofs.Admitted.{clash}
 use Rattle.normal.specs.Normalizing.{CanRefuse, Transfers, is_repeated}
 use Rattle.normal.specs.Normalizing.CanRefuse.{the_sources, outgrown, bad_token, no_room, not_taken}
 use Rattle.normal.specs.Normalizing.Transfers.{at_the_end, unread, left_out, put_on, not_put}

@@ -1,5 +1,5 @@
 -- The normal-form law, from what finished runs write, what written tokens read back as, and what a transfer has put.
-use Rattle.std.proofs.Common.{◌≡◌, ℕ, Bool, true, false, List, length, Some, sym, refl, ap, ◌∙◌, subst}
+use Rattle.std.proofs.Common.{◌≡◌, ℕ, Bool, List, length, Some, sym, refl, ap, ◌∙◌, subst}
 use Rattle.codepoint.specs.Utf8.{code_points_of, points_from}
 use Rattle.stream.specs.Preprocess.{AllPreprocessed, Placed, preprocessed}
 use Rattle.stream.specs.Sources.{Ending}
@@ -19,7 +19,7 @@ use Rattle.writer.specs.Runs.{Deed, FinishedRun, WritesItsTokens, accepted, byte
 use Rattle.writer.proofs.RunLaws.{finished_runs_write_their_tokens}
 use Rattle.normal.specs.Law.{BytesAndTokensAgree, FinishedBytesReadBack, FinishedNormalize, NormalFormLaw, NormalFormsAreSettled, Over, ReadsBackAs}
 use Rattle.normal.proofs.Answering.{calls_are_answered}
-use Rattle.normal.proofs.Transferring.{Came, came}
+use Rattle.normal.proofs.Transferring.{came}
 
 -- what a finished run has written
 wrote : {S : Type 0} (held : S → List ℕ) (takes : S → ℕ → Bool) (s : S) (ds : List Deed) (u : Writer S) → FinishedRun held takes s ds u → WritesItsTokens held s ds u

@@ -1,5 +1,5 @@
 -- One turn of a transfer, by what next_token answered.
-use Rattle.std.proofs.Common.{◌≡◌, ℕ, ◌<◌, Bool, true, false, List, length, Ok, Err, Result, sym, refl, ap, ◌∙◌, subst, arith}
+use Rattle.std.proofs.Common.{◌≡◌, ℕ, ◌<◌, Bool, true, false, List, length, Ok, Err, Result, refl, subst, arith}
 use Rattle.refusal.specs.declared.fault.Fault.{Fault}
 use Rattle.syntax.specs.declared.kind.Kind.TheVariants.{Whitespace}
 use Rattle.syntax.specs.Tokens.{TokenValue, is_kind}

@@ -1,11 +1,10 @@
 -- A transfer that was not refused has read all tokens, none of them bad, and is a run that put them collapsed and finished.
-use Rattle.std.proofs.Common.{◌≡◌, ℕ, Bool, true, false, cond, ◌&&◌, List, [], ◌∷◌, Some, Ok, Err, Result, sym, refl, ap, ◌∙◌, subst, arith}
+use Rattle.std.proofs.Common.{◌≡◌, ℕ, Bool, true, false, ◌&&◌, List, [], ◌∷◌, Some, Ok, sym, refl, ap, ◌∙◌, arith}
 use Rattle.std.proofs.lemmas.Bool.{and_parts, cond-true, cond-false}
 use Rattle.std.proofs.lemmas.Bool.Decides.{nat_tests}
-use Rattle.refusal.specs.declared.fault.Fault.{Fault}
 use Rattle.syntax.specs.declared.kind.Kind.{Kind}
 use Rattle.syntax.specs.declared.kind.Kind.TheVariants.{Whitespace}
-use Rattle.syntax.specs.Kinds.{is_bad_kind, number_of, same_kind}
+use Rattle.syntax.specs.Kinds.{is_bad_kind, same_kind}
 use Rattle.syntax.specs.Tokens.{TokenValue, is_bad, is_kind}
 use Rattle.syntax.specs.Reading.{Yields}
 use Rattle.syntax.specs.Written.{Each, collapsed_after}
@@ -23,7 +22,7 @@ use Rattle.writer.specs.Writes.{Finishes, Puts}
 use Rattle.writer.specs.Writes.Finishes.{finished}
 use Rattle.writer.specs.Writes.Puts.{put_added}
 use Rattle.writer.proofs.Admitted.{put_lets_through}
-use Rattle.normal.specs.Normalizing.{Transfers, is_repeated}
+use Rattle.normal.specs.Normalizing.{Transfers}
 use Rattle.normal.specs.Normalizing.Transfers.{at_the_end, left_out, put_on}
 
 pub whitespace_is_good : (k : Kind) → same_kind k Whitespace ≡ true → is_bad_kind k ≡ false

@@ -1,6 +1,6 @@
 -- The normal-form law, over any two kinds of source and any two kinds of sink: how calls are answered, what bytes and tokens
 -- tell of each other, what finished bytes read back as, and that normal forms are settled.
-use Rattle.std.specs.Prelude.{◌≡◌, ℕ, ◌<◌, Bool, true, false, ◌⊎◌, List, [], ◌++◌, length, take, Some, None, Ok, Err, Option, Result, slice_index}
+use Rattle.std.specs.Prelude.{◌≡◌, ℕ, ◌<◌, Bool, false, List, [], ◌++◌, length, take, Some, None, Ok, Err, Option, Result, slice_index}
 use Rattle.codepoint.specs.Utf8.{code_points_of, points_from}
 use Rattle.refusal.specs.declared.fault.Fault.{Fault}
 use Rattle.refusal.specs.declared.fault.Fault.TheVariants.{NotTaken}

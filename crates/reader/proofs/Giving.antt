@@ -1,5 +1,5 @@
 -- A reading gives the tokens.
-use Rattle.std.proofs.Common.{◌≡◌, ℕ, zero, suc, ◌+◌, ◌-◌, ◌≤◌, Bool, true, false, cond, ltb, ◌⊎◌, List, [], ◌∷◌, ◌++◌, length, take, drop, Ok, Err, Result, sym, refl, ap, ◌∙◌, subst, inl, inr, append_assoc, arith, take_all}
+use Rattle.std.proofs.Common.{◌≡◌, ℕ, ◌+◌, ◌≤◌, Bool, true, false, cond, ltb, ◌⊎◌, List, [], ◌∷◌, ◌++◌, length, take, drop, Ok, Err, Result, sym, refl, ap, ◌∙◌, subst, inl, inr, append_assoc, arith, take_all}
 use lib.Seq.{take-append_seam, drop-append_seam}
 use Rattle.std.proofs.lemmas.Bool.{cond-false, le-ltb, ltb-false}
 use Rattle.codepoint.specs.Utf8.{code_points_of}
@@ -21,7 +21,7 @@ use Rattle.reader.specs.declared.answer.Located.{Located}
 use Rattle.reader.specs.declared.answer.Next.{Next}
 use Rattle.reader.specs.declared.answer.Next.TheVariants.{Token, End}
 use Rattle.reader.specs.declared.answer.State.TheVariants.{Going, Ended}
-use Rattle.reader.specs.NextToken.{Answers, Model, NextToken, NextTokenFrom, answered, begun, end_answer, located, overwritten, place_of, unless_stopped}
+use Rattle.reader.specs.NextToken.{Model, NextToken, NextTokenFrom, answered, begun, end_answer, located, overwritten, place_of, unless_stopped}
 use Rattle.reader.specs.Readings.{GivesTheTokens, Reading, value_in}
 use Rattle.reader.specs.Readings.Reading.{ended, gave}
 use Rattle.reader.proofs.Cutting.{beyond_is_end, cut_exactly, rest_is_end, bad_has_no_unit}

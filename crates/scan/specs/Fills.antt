@@ -1,5 +1,5 @@
 -- What stands in a buffer of cells after a text.
-use Rattle.std.specs.Prelude.{◌≡◌, ℕ, ◌+◌, true, false, cond, List, [], ◌∷◌, length, set, nat_lt, slice_set}
+use Rattle.std.specs.Prelude.{◌≡◌, ℕ, ◌+◌, true, false, cond, List, [], ◌∷◌, length, nat_lt, slice_set}
 use Rattle.scan.specs.declared.fill.Fill.{Fill}
 use Rattle.scan.specs.Ahead.{Ahead, Left}
 

@@ -1,10 +1,10 @@
 -- Hex digits, and the loop over a text.
-use Rattle.std.proofs.Common.{◌≡◌, ℕ, zero, suc, ◌+◌, ◌-◌, ◌/◌, ◌%◌, ◌<◌, ◌≤◌, Bool, true, false, cond, ltb, List, [], ◌∷◌, ◌++◌, length, get_or, drop, IsErrAnd, Ok, Err, Result, sym, refl, ap, ◌∙◌, add-one, arith, drop-cons}
+use Rattle.std.proofs.Common.{◌≡◌, ℕ, zero, suc, ◌+◌, ◌-◌, ◌/◌, ◌%◌, ◌<◌, ◌≤◌, Bool, ltb, List, [], ◌∷◌, ◌++◌, length, get_or, drop, IsErrAnd, Ok, Err, Result, sym, refl, ap, ◌∙◌, add-one, arith, drop-cons}
 use Rattle.std.proofs.lemmas.List.{drop_all}
 use Rattle.std.proofs.lemmas.Bool.{cond-true, cond-false, lt-ltb, le-ltb}
 use Rattle.codepoint.specs.Utf8.{bytes_of}
 use Rattle.refusal.specs.declared.fault.Fault.{Fault}
-use Rattle.stream.specs.Sinks.{Emits, done}
+use Rattle.stream.specs.Sinks.{Emits}
 use Rattle.syntax.specs.declared.place.Treatment.{Treatment}
 use Rattle.syntax.specs.Places.{hex_digit, hex_digits, escaped, escaped_from}
 use Rattle.spelling.proofs.Emissions.{by, and_then, cut_short, nothing}

@@ -3,8 +3,8 @@ use Rattle.std.proofs.Common.{◌≡◌, ℕ, ◌+◌, ◌≤◌, Bool, true, fa
 use Rattle.std.proofs.lemmas.Bool.Decides.{nat_tests}
 use Rattle.syntax.specs.declared.place.Treatment.{Treatment}
 use Rattle.syntax.specs.declared.place.Treatment.TheVariants.{Hex}
-use Rattle.syntax.specs.Numbers.{is_e, has_exponent}
-use Rattle.syntax.specs.Places.{Place, escaped, escaped_from, hex, identifier, is_control, looks_like_exponent, spelled_in, treatment, unit_behind}
+use Rattle.syntax.specs.Numbers.{has_exponent}
+use Rattle.syntax.specs.Places.{escaped, escaped_from, hex, identifier, is_control, looks_like_exponent, spelled_in, treatment, unit_behind}
 
 same_from : (how how' : ℕ → ℕ → Treatment) (i : ℕ) (t : List ℕ) → ((j c : ℕ) → i ≤ j → how j c ≡ how' j c) → escaped_from how i t ≡ escaped_from how' i t
 unfolding escaped_from

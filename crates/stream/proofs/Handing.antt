@@ -1,9 +1,9 @@
 -- What the array source and the byte source hand over, by what comes first.
-use Rattle.std.proofs.Common.{◌≡◌, ℕ, suc, ◌+◌, ◌-◌, ◌<◌, ◌≤◌, Bool, true, false, cond, leb, List, [], ◌∷◌, ◌++◌, length, get_or, take, drop, Some, None, Ok, Err, sym, refl, ap, ◌∙◌, add-zero, add-one, arith, length-append, length-drop, take_all, drop-cons, drop-drop}
+use Rattle.std.proofs.Common.{◌≡◌, ℕ, suc, ◌+◌, ◌-◌, ◌<◌, ◌≤◌, Bool, true, false, cond, leb, List, [], ◌∷◌, length, get_or, take, drop, Ok, Err, sym, refl, ap, ◌∙◌, add-zero, add-one, arith, length-append, length-drop, take_all, drop-cons, drop-drop}
 use Rattle.std.proofs.lemmas.List.{drop_all}
 use Rattle.codepoint.specs.declared.utf8.Decoded.{Decoded}
 use Rattle.codepoint.specs.declared.utf8.Decoded.TheVariants as decodes
-use Rattle.codepoint.specs.Utf8.{decoded, ill_formed_from, ill_formed_then, point_then, points_from, utf8}
+use Rattle.codepoint.specs.Utf8.{decoded, ill_formed_from, ill_formed_then, point_then, points_from}
 use Rattle.codepoint.proofs.Sequences.{decoded_is_encoding}
 use Rattle.codepoint.proofs.Utf8Laws.{encoding_is_not_empty, first_point}
 use Rattle.codepoint.proofs.Decoding.{decoded_is_not_empty}
@@ -11,7 +11,7 @@ use Rattle.refusal.specs.declared.fault.Fault.TheVariants.{OutOfRange, IllFormed
 use Rattle.stream.specs.declared.source.Step.TheVariants.{Point, End}
 use Rattle.stream.specs.Preprocess.{Placed}
 use Rattle.stream.specs.Sources.{Ending, Hands, array_ending, array_points, byte_ending, ending_at}
-use Rattle.stream.specs.Sources.Ending.{ends, stops}
+use Rattle.stream.specs.Sources.Ending.{stops}
 
 -- the array source at index i
 module _ (i : ℕ) (xs : List ℕ) where

@@ -6,7 +6,7 @@ use Rattle.codepoint.specs.Classes.{is_scalar_value, is_surrogate}
 use Rattle.codepoint.specs.Utf8.{AllScalar, code_points_of, ill_formed_from, points_from}
 use Rattle.codepoint.proofs.Utf8Laws.{points_are_scalar}
 use Rattle.stream.specs.Preprocess.{AllWithin, Placed, behind, replaced}
-use Rattle.stream.specs.Sources.{Ending, FromSource, array_ending, array_points, byte_ending, ending_at}
+use Rattle.stream.specs.Sources.{FromSource, array_ending, array_points, byte_ending, ending_at}
 
 -- both ways of a choice
 choice : {A : Type 0} (P : A → Type 0) (b : Bool) (x y : A) → (b ≡ true → P x) → P y → P (cond b x y)

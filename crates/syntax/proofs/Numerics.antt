@@ -10,7 +10,6 @@ use Rattle.syntax.specs.Escapes.{in_ident}
 use Rattle.syntax.specs.Bodies.{while}
 use Rattle.syntax.specs.Numbers.{digits, exponent_length, fraction_length, has_exponent, is_e, is_sign, number_at, part, part_if_any, past_digits, sign_length, with_exponent, with_fraction}
 use Rattle.syntax.specs.Reading.{end_number, found_by, next, numeric_at, token_of, told}
-use Rattle.syntax.specs.Reading.Branch.{at}
 use Rattle.syntax.specs.Reading.Next.{token}
 use Rattle.syntax.specs.Places.{escaped_from, looks_like_exponent, spelled_in, treatment, unit_behind}
 use Rattle.syntax.proofs.Formed.{Digits, Exponent, Fraction, Numeral, Sign, Text}

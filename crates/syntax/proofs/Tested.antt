@@ -3,7 +3,7 @@ use Rattle.std.proofs.Common.{◌≡◌, ℕ, Bool, true, false, ◌&&◌, ◌||
 use Rattle.std.proofs.lemmas.Bool.{and_from, and_parts, both_ways, cond_both, eqb-true, or_cases}
 use Rattle.codepoint.specs.Classes.{is_digit, is_ident, is_ident_start, is_letter, is_scalar_value, is_whitespace}
 use Rattle.codepoint.specs.Starts.{is_valid_escape, starts_ident, starts_number}
-use Rattle.stream.specs.Preprocess.{AllPreprocessed, is_preprocessed, preprocessed}
+use Rattle.stream.specs.Preprocess.{AllPreprocessed, is_preprocessed}
 use Rattle.syntax.specs.declared.kind.Kind.{Kind}
 use Rattle.syntax.specs.declared.kind.Kind.TheVariants.{AtKeyword, BadString, BadUrl, Cdc, Cdo, CloseCurly, CloseRound, CloseSquare, Colon, Comma, Delim, Dimension, Function, Hash, Ident, Number, OpenCurly, OpenRound, OpenSquare, Percentage, QuotedString, Semicolon, Url, Whitespace}
 use Rattle.syntax.specs.declared.waiting.Waiting.TheVariants.{Free}

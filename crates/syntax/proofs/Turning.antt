@@ -2,7 +2,7 @@
 use Rattle.std.proofs.Common.{◌≡◌, ℕ, true, false, ◌&&◌, eqb, ◌⊎◌, List, [], ◌∷◌, map, get_or, refl, ap, ◌∙◌, subst, inl, inr, ⊎_elim}
 use Rattle.std.proofs.lemmas.Bool.{and_left, and_parts, both_ways, cond_both, eqb-true, or_cases, or_right}
 use Rattle.codepoint.specs.Classes.{is_whitespace}
-use Rattle.stream.specs.Preprocess.{AllPreprocessed, preprocessed}
+use Rattle.stream.specs.Preprocess.{AllPreprocessed}
 use Rattle.syntax.specs.declared.kind.Kind.TheVariants.{BadString, QuotedString, Whitespace}
 use Rattle.syntax.specs.declared.waiting.Waiting.{Waiting}
 use Rattle.syntax.specs.declared.waiting.Waiting.TheVariants.{AfterBackslash, AfterUrl, AfterUrlWhitespace, Free}

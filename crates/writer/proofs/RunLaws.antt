@@ -1,29 +1,25 @@
 -- A finished run from a new writer has written its accepted tokens. The induction goes forward over the calls, with
 -- what the tokens so far come to; after finish nothing changes, and a stuck writer never finishes.
-use Rattle.std.proofs.Common.{◌≡◌, ℕ, ◌+◌, Bool, true, false, cond, ◌&&◌, List, [], ◌∷◌, ◌++◌, length, drop, is_some, Some, None, Ok, Err, Decides, Option, sym, refl, ap, ◌∙◌, subst, append_assoc, append-nil, arith, length-append}
+use Rattle.std.proofs.Common.{◌≡◌, ℕ, ◌+◌, Bool, true, false, cond, ◌&&◌, List, [], ◌∷◌, ◌++◌, length, drop, is_some, Some, Ok, Err, Option, sym, refl, ap, ◌∙◌, subst, append_assoc, append-nil, arith, length-append}
 use lib.Seq.{drop-append_seam}
 use Rattle.codepoint.specs.Utf8.{bytes_of}
 use Rattle.refusal.specs.declared.fault.Fault.{Fault}
 use Rattle.stream.specs.Sinks.{Emits}
 use Rattle.stream.proofs.Emitting.{outcome}
 use Rattle.syntax.specs.declared.kind.Kind.TheVariants.{Whitespace}
-use Rattle.syntax.specs.declared.neighbour.Left.{Left}
-use Rattle.syntax.specs.declared.waiting.Waiting.TheVariants.{Free}
 use Rattle.syntax.specs.Tokens.{TokenValue, is_kind}
-use Rattle.syntax.specs.Lawful.{Lawful, is_lawful}
 use Rattle.syntax.specs.Turn.{is_in_turn, waiting_after}
-use Rattle.syntax.specs.Neighbours.{apart, right_of, left_of}
+use Rattle.syntax.specs.Neighbours.{apart, right_of}
 use Rattle.syntax.specs.Written.{added, written, written_from, written_bytes, comments_in, Fit}
-use Rattle.syntax.specs.Puts.{left_now, waiting_now, is_whitespace_left, Accepted, MayFollow, Followed, PutAddsOneToken, AcceptedMayFinish}
+use Rattle.syntax.specs.Puts.{left_now, waiting_now, is_whitespace_left, Accepted, MayFollow, PutAddsOneToken, AcceptedMayFinish}
 use Rattle.syntax.specs.Laws.{TestDecidesLawful}
 use Rattle.spelling.proofs.Bytes.{bytes_append, bytes_none}
-use Rattle.writer.specs.declared.state.State.{State}
 use Rattle.writer.specs.declared.writing.Writer.{Writer}
 use Rattle.writer.specs.Blocks.{mirror}
-use Rattle.writer.specs.States.{Fresh, Advanced, Halted, Ended}
-use Rattle.writer.specs.Writes.{New, bytes_added, Adds, whole, broken, Puts, put_refused, put_added, Opens, open_refused, opened, open_broken, Closes, close_refused, close_added, Finishes, finish_refused, finished}
-use Rattle.writer.specs.Runs.{Deed, did_put, did_open, did_close, did_finish, accepted, finale, Does, Run, none, more, FinishedRun, WritesItsTokens, FinishedRunsWriteTheirTokens}
-use Rattle.writer.proofs.Admitted.{clash, LetsThrough, put_lets_through, open_lets_through, close_lets_through, LetsEnd, finish_lets_end}
+use Rattle.writer.specs.States.{Advanced}
+use Rattle.writer.specs.Writes.{bytes_added, Adds, whole, broken, put_refused, put_added, open_refused, opened, open_broken, close_refused, close_added, finish_refused, finished}
+use Rattle.writer.specs.Runs.{Deed, did_put, did_open, did_close, did_finish, accepted, finale, Does, Run, none, more, FinishedRunsWriteTheirTokens}
+use Rattle.writer.proofs.Admitted.{clash, LetsThrough, put_lets_through, open_lets_through, close_lets_through, finish_lets_end}
 
 module _ {S : Type 0} (held : S → List ℕ) (takes : S → ℕ → Bool) where
   -- after finish every call is refused, and nothing changes

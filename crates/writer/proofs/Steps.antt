@@ -1,5 +1,5 @@
 -- How each call's relation is made from what its parts ensure.
-use Rattle.std.proofs.Common.{◌≡◌, ℕ, ◌+◌, ◌-◌, Bool, cond, List, [], ◌++◌, IsErrAnd, Ok, Err, Result, sym, refl, ap, ◌∙◌, subst}
+use Rattle.std.proofs.Common.{◌≡◌, ℕ, ◌+◌, ◌-◌, Bool, cond, List, [], ◌++◌, IsErrAnd, Ok, Err, Result, sym, ap, ◌∙◌, subst}
 use Rattle.codepoint.specs.Utf8.{bytes_of}
 use Rattle.refusal.specs.declared.fault.Fault.{Fault}
 use Rattle.stream.specs.Sinks.{Emits}

@@ -1,4 +1,3 @@
-use Rattle.std.proofs.Common.{sym}
 use Rattle.codepoint.proofs.Encoding.{one_byte, two_bytes_lem, three_bytes_lem, four_bytes_lem}
 use Rattle.codepoint.proofs.utf8.encode_scalar.Goals as goal
 

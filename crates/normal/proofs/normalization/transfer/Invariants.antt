@@ -1,4 +1,4 @@
-use Rattle.std.proofs.Common.{◌≡◌, ℕ, false, List, length, Result}
+use Rattle.std.proofs.Common.{ℕ, false, List, length, Result}
 use Rattle.refusal.specs.declared.fault.Fault.{Fault}
 use Rattle.reader.specs.NextToken.{Model, model_of}
 use Rattle.normal.specs.Normalizing.{Transfers}

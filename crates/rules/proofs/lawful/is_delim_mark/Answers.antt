@@ -1,5 +1,4 @@
-use Rattle.std.proofs.Common.{◌≡◌, Bool, true, false, not, ◌&&◌, ◌||◌, eqb, codes, sym, ap, ◌∙◌}
-use Rattle.codepoint.specs.Classes.{is_non_printable}
+use Rattle.std.proofs.Common.{◌||◌, codes, sym, ap, ◌∙◌}
 use Rattle.syntax.specs.Points.{is_one_of}
 use Rattle.syntax.specs.Lawful.{is_delim_mark}
 use Rattle.rules.proofs.lawful.is_delim_mark.Goals as goal

@@ -1,7 +1,5 @@
-use Rattle.std.proofs.Common.{codes, refl}
 use Rattle.syntax.specs.Places.{spelled_in, unit_behind}
-use Rattle.spelling.proofs.Bytes.{bytes_ascii}
-use Rattle.spelling.proofs.Emissions.{by, and_then, cut_short}
+use Rattle.spelling.proofs.Emissions.{and_then, cut_short}
 use Rattle.spelling.proofs.token.emit_dimension.Goals as goal
 
 pub returns-in_err-emit_points : goal.returns-in_err-emit_points

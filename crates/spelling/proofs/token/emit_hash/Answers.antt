@@ -1,4 +1,4 @@
-use Rattle.std.proofs.Common.{eqb, codes, sym, refl, ap, ◌∙◌, arith}
+use Rattle.std.proofs.Common.{eqb, codes, sym, refl, ap, arith}
 use Rattle.std.proofs.lemmas.Bool.{cond-true, cond-false}
 use Rattle.std.proofs.lemmas.Bool.Decides.{nat_tests}
 use Rattle.codepoint.specs.Utf8.{bytes_of}

@@ -1,4 +1,4 @@
-use Rattle.std.proofs.Common.{List, drop, Result}
+use Rattle.std.proofs.Common.{drop, Result}
 use Rattle.refusal.specs.declared.fault.Fault.{Fault}
 use Rattle.stream.specs.Sinks.{Emits}
 use Rattle.stream.proofs.emission.emit.Given as goal

@@ -1,5 +1,4 @@
-use Rattle.std.proofs.Common.{◌≡◌, sym, refl}
-use Rattle.codepoint.specs.Utf8.{utf8}
+use Rattle.std.proofs.Common.{sym}
 use Rattle.stream.proofs.Emitting.{along, alone, ascii_alone, outcome}
 use Rattle.stream.proofs.emission.emit_code_point.Goals as goal
 
