@@ -1,5 +1,5 @@
 //! How the window is filled, shown and passed over.
-ghost use Rattle.std.specs.Prelude.{◌≡◌, ◌-◌, ◌≤◌};
+ghost use Rattle.std.specs.Prelude.{◌≡◌, ◌-◌, ◌≤◌, length};
 ghost use Rattle.lookahead.specs.Ahead.{EndsAtZero, peeked};
 ghost use Rattle.lookahead.specs.Windows.{Refilled, ahead_of, code_at, place_at};
 ghost use Rattle.stream.specs.Preprocess.{preprocessed};
@@ -56,6 +56,8 @@ impl<S: Source> Window<S> {
         ensures same { ahead_of S.Source.ahead S.Source.ending self.new ≡ ahead_of S.Source.ahead S.Source.ending self.old }
         ensures front { self.new.at ≡ 0 }
         ensures few { self.new.end ≤ 2 }
+        ensures codes { length self.new.codes ≡ 66 }
+        ensures places { length self.new.places ≡ 66 }
     {
         let at = self.at;
         self.codes[0] = self.codes[at];

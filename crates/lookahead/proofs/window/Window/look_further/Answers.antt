@@ -1,4 +1,4 @@
-use Rattle.std.proofs.Common.{◌≡◌, ◌+◌, ◌<◌, ◌++◌, sym, refl, ap, ◌∙◌, subst, zero-add, arith}
+use Rattle.std.proofs.Common.{◌≡◌, ◌+◌, ◌<◌, ◌++◌, sym, refl, ap, ◌∙◌, subst, arith}
 use Rattle.lookahead.specs.Ahead.{Ahead, EndsAtZero, peeked}
 use Rattle.lookahead.specs.Windows.{ahead_of, points_of, run}
 use Rattle.lookahead.proofs.Chunks.{few_are_all, run_at_front, three, three_end, three_seen}

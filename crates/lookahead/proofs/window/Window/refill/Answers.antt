@@ -9,7 +9,7 @@ invariant_of-self-in-Point g c =
     let handed = handed_point (points_of g.S.Source.ahead w.source) _ _ _ c.next.result (c.in-Point.c, c.in-Point.place) (c.in-Ok.is ∙ ap Ok c.in-Point.is) c.next.ensures in
     let some = first_is_not_zero _ _ (c.in-Point.c, c.in-Point.place) (behind_has_no_zero w.source.after_cr (g.S.Source.ahead w.source.below)) handed.0 in
     let all : (k : ℕ) → k < c.loop-i.i → 0 < get_or w.codes k 0 = λ k h. w.filled k (omega (arith, c.loop-i.invariant.2)) in
-    (omega (arith, c.loop-i.invariant.1), (omega arith, (still_filled c.loop-i.i w.codes c.in-Point.c (omega (arith, c.loop-i.invariant.3)) some all, tt)))
+    record { ordered = omega (arith, c.loop-i.invariant.1); inside = omega arith; filled = still_filled c.loop-i.i w.codes c.in-Point.c (omega (arith, c.loop-i.invariant.3)) some all }
 
 pub loop-i-preserved : goal.loop-i-preserved
 loop-i-preserved g c =

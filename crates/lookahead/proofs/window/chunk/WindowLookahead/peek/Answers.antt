@@ -1,4 +1,4 @@
-use Rattle.std.proofs.Common.{◌≡◌, ◌+◌, ◌-◌, ◌<◌, ◌≤◌, refl, ◌∙◌, arith}
+use Rattle.std.proofs.Common.{◌+◌, ◌-◌, ◌≤◌, refl, ◌∙◌, arith}
 use Rattle.lookahead.specs.Windows.{points_of}
 use Rattle.lookahead.proofs.Chunks.{three_end, three_seen, three_whole}
 use Rattle.lookahead.proofs.window.chunk.WindowLookahead.peek.Goals as goal
