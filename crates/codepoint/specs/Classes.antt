@@ -71,7 +71,7 @@ pub record ClassNumber (c r : ℕ) : Type 0 where
   pub newline : is_newline c ≡ (r == 1)
   pub whitespace : is_whitespace c ≡ within 1 2 r
   pub digit : is_digit c ≡ (r == 4)
-  pub hex_digit_lem : is_hex_digit c ≡ within 4 5 r
+  pub hex_digit : is_hex_digit c ≡ within 4 5 r
   pub letter : is_letter c ≡ within 5 6 r
   pub ident_start : is_ident_start c ≡ within 5 7 r
   pub ident : is_ident c ≡ within 3 7 r

@@ -45,7 +45,7 @@ record Part (Ok : List ℕ → Type 0) (t r : List ℕ) (p : List ℕ × List �
   ok : Ok more
   whole : more ++ p.1 ≡ r
 
--- a fractionLength, where there is one
+-- a fraction, where there is one
 dots : List ℕ → Bool
 dots r = eqb (get_or r 0 0) 46 && is_digit (get_or r 1 0)
 
@@ -72,7 +72,7 @@ fraction_found t r =
     (λ e. dotted t r e)
     (λ e. record { more = []; is = sym (append-nil t); ok = (no_fraction, λ x. absurd (both_ways _ e x)); whole = refl })
 
--- an exponentLength, where there is one
+-- an exponent, where there is one
 powered : (t r : List ℕ) → is_e (get_or r 0 0) ≡ true → is_digit (get_or r 1 0) ≡ true → Part Exponent t r (part 1 t r)
 powered t [] e d = absurd (both_ways false refl e)
 powered t (a ∷ []) e d = not_none d
@@ -104,7 +104,7 @@ exponent_found t r =
     cond_both (is_sign (get_or r 1 0) && is_digit (get_or r 2 0)) _ _ P (λ x. let p = and_parts _ _ x in power_signed t r e p.0 p.1) (λ _. none)))
     (λ _. none)
 
--- the signLength, and what comes behind it
+-- the sign, and what comes behind it
 Front : List ℕ → ℕ → Type 0
 Front s n = Sign (take n s) × ((is_digit (get_or (drop n s) 0 0) || dots (drop n s)) ≡ true)
 

@@ -31,13 +31,13 @@ ident_takes : (c : ℕ) → is_ident c ≡ true → Takes in_ident (c ∷ []) (c
 ident_takes c h = takes_step in_ident c [] (c ∷ []) (λ r. ident_stays c r h)
 
 ident_taken : (t : List ℕ) → Text t → Takes in_ident (inner identifier t) t
-ident_taken t h = takes_text in_ident ident_escaping (KeptIdent t) (treatment identifier t) (ident_spelt t) (λ i c _ _ k. ident_takes c k.is_ident_lem) 0 t h
+ident_taken t h = takes_text in_ident ident_escaping (KeptIdent t) (treatment identifier t) (ident_spelt t) (λ i c _ _ k. ident_takes c k.ident) 0 t h
 
 loose_taken : (t : List ℕ) → Text t → Takes in_ident (inner loose t) t
 loose_taken t h = takes_text in_ident ident_escaping (λ i c. is_ident c ≡ true) (treatment loose t) (loose_spelt t) (λ i c _ _ k. ident_takes c k) 0 t h
 
 pub unit_taken : (n t : List ℕ) → Text t → Takes in_ident (inner (unit_behind n) t) t
-unit_taken n t h = takes_text in_ident ident_escaping (KeptUnit n t) (treatment (unit_behind n) t) (unit_spelt n t) (λ i c _ _ k. ident_takes c k.kept.is_ident_lem) 0 t h
+unit_taken n t h = takes_text in_ident ident_escaping (KeptUnit n t) (treatment (unit_behind n) t) (unit_spelt n t) (λ i c _ _ k. ident_takes c k.kept.ident) 0 t h
 
 -- neither an ident code point nor an escape comes first
 pub record Plain (r : List ℕ) : Type 0 where
@@ -86,7 +86,7 @@ module _ (text r : List ℕ) where
   unfolding escaped_from how
   third_no_gt d [] e = e
   third_no_gt d (x ∷ t) e =
-      and_right (eqb d 45) _ (rw append_assoc (spelt_opens (λ s. eqb (get_or s 0 0) 62 ≡ false) _ (λ _ _ _. refl) (λ k. not_gt x k.is_ident_lem) (ident_spelt text 2 x)))
+      and_right (eqb d 45) _ (rw append_assoc (spelt_opens (λ s. eqb (get_or s 0 0) 62 ≡ false) _ (λ _ _ _. refl) (λ k. not_gt x k.ident) (ident_spelt text 2 x)))
 
   second_no_cdc : (d : ℕ) (t : List ℕ) → (is_dashes (45 ∷ d ∷ t) && eqb (get_or r 0 0) 62) ≡ false → opens_cdc (45 ∷ (escaped_from how 1 (d ∷ t) ++ r)) ≡ false
   unfolding escaped_from how opens_cdc

@@ -49,7 +49,7 @@ part_of t w d r h n =
     drop_front [] s = refl
     drop_front (c ∷ w) s = drop_front w s
 
--- what may follow a number that ends with the exponentLength e: no digit, no fractionLength, and no exponentLength unless there is one
+-- what may follow a number that ends with the exponent e: no digit, no fraction, and no exponent unless there is one
 record Ends (e r : List ℕ) : Type 0 where
   no_more : is_digit (get_or r 0 0) ≡ false
   no_part : fraction_length (get_or r 0 0) (get_or r 1 0) ≡ 0
@@ -74,7 +74,7 @@ exponent_of t e r (bare_exponent {a} {c} {d} p h l) k =
 exponent_of t e r (signed_exponent {a} {b} {c} {d} p q h l) k =
     ap (λ n. part_if_any n t (a ∷ b ∷ c ∷ (d ++ r))) (power_two a b c p q h) ∙ part_of t (a ∷ b ∷ []) (c ∷ d) r (h, l) k.no_more
 
--- what opens an exponentLength is no digit and no fractionLength
+-- what opens an exponent is no digit and no fraction
 opens_power : (a b : ℕ) → (eqb a 101 || eqb a 69) ≡ true → (is_digit a ≡ false) × (fraction_length a b ≡ 0)
 unfolding fraction_length is_digit
 opens_power a b p = (grind (arith, nat_tests), rw no_dot refl)
@@ -100,7 +100,7 @@ unfolding is_digit
 fraction_opens f s no_fraction n = n
 fraction_opens f s (fractional h l) n = refl
 
--- a signLength, digits, a fractionLength and an exponentLength, before what may follow, are read as one number
+-- a sign, digits, a fraction and an exponent, before what may follow, are read as one number
 number_parts : (g d f e r : List ℕ) → Digits d → Fraction f → Exponent e → Ends e r → sign_length (get_or (g ++ (d ++ (f ++ (e ++ r)))) 0 0) ≡ length g
     → number_at (g ++ (d ++ (f ++ (e ++ r)))) ≡ (((g ++ d) ++ f) ++ e, r)
 unfolding number_at
@@ -120,7 +120,7 @@ sign_of g [] f s unsigned dd (fractional h k) l = refl
 sign_of g (c ∷ d) f s unsigned dd ff l = digit_no_sign c dd.0
 sign_of g d f s (signed p) dd ff l = rw p refl
 
--- the text has an exponentLength only where that part has
+-- the text has an exponent only where that part has
 no_e : (c : ℕ) → is_digit c ≡ true → is_e c ≡ false
 unfolding is_digit
 no_e c h = rw (told_apart is_digit c 101 h refl, told_apart is_digit c 69 h refl) refl
@@ -213,7 +213,7 @@ module _ (n u r : List ℕ) (follows : Counts false r) where
   second_tame (d ∷ t) h =
       let p = or_parts _ _ h in
       rw append_assoc
-      (spelt_opens Tame _ (λ _ _ _. (refl, refl)) (λ k. (p.0, rw (told_apart is_ident d 43 k.kept.is_ident_lem refl) (signed_next (eqb d 45) p.1))) (unit_spelt n u 1 d))
+      (spelt_opens Tame _ (λ _ _ _. (refl, refl)) (λ k. (p.0, rw (told_apart is_ident d 43 k.kept.ident refl) (signed_next (eqb d 45) p.1))) (unit_spelt n u 1 d))
     where
       signed_next : (b : Bool) → (b && is_digit (get_or t 0 0)) ≡ false → (b && is_digit (get_or (escaped_from (treatment (unit_behind n) u) 2 t ++ r) 0 0)) ≡ false
       signed_next true x = third_no_digit t x

@@ -51,7 +51,7 @@ module _ (how : ℕ → ℕ → Treatment) (r : List ℕ) where
   unfolding escaped_from
   second_opens d t spelt =
       rw append_assoc (spelt_opens (λ s. NameLike (45 ∷ s)) _ (λ _ _. dash_escape)
-      (λ k. split (eqb d 45) refl (and_true (is_digit d) k.no_leading_digit) k.is_ident_lem) (spelt 1 d))
+      (λ k. split (eqb d 45) refl (and_true (is_digit d) k.no_leading_digit) k.ident) (spelt 1 d))
     where
       split : {u : List ℕ} (b : Bool) → eqb d 45 ≡ b → is_digit d ≡ false → is_ident d ≡ true → NameLike (45 ∷ d ∷ u)
       split true e n i = rw (eqb-true d 45 e) dashes
@@ -64,7 +64,7 @@ module _ (how : ℕ → ℕ → Treatment) (r : List ℕ) where
       let z = eqb-true c 45 e in
       let second = second_opens d t (subst (λ x. (i c : ℕ) → Spelt (KeptIdent (x ∷ d ∷ t) i c) c (how i c)) z spelt) in
       subst (λ x. NameLike (x ∷ (escaped_from how 1 (d ∷ t) ++ r))) (sym z) second
-  first_opens c t spelt false e k = start (start_of c k.is_ident_lem (and_true (is_digit c) k.no_leading_digit) e)
+  first_opens c t spelt false e k = start (start_of c k.ident (and_true (is_digit c) k.no_leading_digit) e)
 
   name_opens : (t : List ℕ) → ((i c : ℕ) → Spelt (KeptIdent t i c) c (how i c)) → 0 < length t → NameLike (escaped_from how 0 t ++ r)
   unfolding escaped_from

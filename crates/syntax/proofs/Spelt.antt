@@ -54,7 +54,7 @@ module _ (f : List ℕ → Step ℕ) (esc : Escaping f) where
 
 -- identifiers: no leading digit stays, and no `-` that is alone
 pub record KeptIdent (text : List ℕ) (i c : ℕ) : Type 0 where
-  pub is_ident_lem : is_ident c ≡ true
+  pub ident : is_ident c ≡ true
   pub no_leading_digit : (is_digit c && is_leading text i) ≡ false
   pub no_lone_hyphen : (eqb c 45 && eqb (length text) 1) ≡ false
 
@@ -75,7 +75,7 @@ ident_treats text i c n =
     let P : Treatment → Type 0 = Spelt (KeptIdent text i c) c in
     cond_both (is_digit c && is_leading text i) _ _ P (λ _. hexed) (λ d.
     cond_both (is_ident c && not (eqb c 45 && eqb (length text) 1)) _ _ P
-    (λ e. let p = and_parts (is_ident c) _ e in stays n (record { is_ident_lem = p.0; no_leading_digit = d; no_lone_hyphen = not-true _ p.1 }))
+    (λ e. let p = and_parts (is_ident c) _ e in stays n (record { ident = p.0; no_leading_digit = d; no_lone_hyphen = not-true _ p.1 }))
     (λ e. slashed n (no_hex_slashed c _ e)))
 
 pub ident_spelt : (text : List ℕ) (i c : ℕ) → Spelt (KeptIdent text i c) c (treatment identifier text i c)

@@ -16,7 +16,7 @@ pub fn reading_yields_lawful_tokens_in_turn()
     ensures { ReadingYieldsLawfulInTurn }
 {}
 
-// A token passes the check `isLawful` exactly when some input yields it and it is not bad.
+// A token passes the check `is_lawful` exactly when some input yields it and it is not bad.
 pub fn lawfulness_is_decided()
     ensures { TestDecidesLawful }
 {}
