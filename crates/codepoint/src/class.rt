@@ -1,8 +1,9 @@
 //! The classes of code points, by one table.
-ghost use Rattle.codepoint.specs.Classes.{ClassNumber, hex_value_if_any, is_digit, is_hex_digit, is_ident, is_ident_start, is_letter, is_newline, is_non_printable, is_whitespace, within};
+ghost use Rattle.codepoint.specs.Classes.{ClassNumber, hex_value_if_any, is_digit, is_hex_digit, is_ident, is_ident_start, is_letter, is_newline, is_non_printable, is_whitespace};
 ghost use Rattle.std.specs.Prelude.{◌≡◌};
 
-/// Class numbers. Of the signs with a token kind of their own, the class number is that kind's.
+// Classes are numbers, and no enum, by a rule of the project: one table of 256 of them, checked entry by entry. Of the
+// signs with a token kind of their own, the class number is that kind's.
 pub const NEWLINE: u8 = 1;
 
 pub const BLANK: u8 = 2;
@@ -59,7 +60,7 @@ pub fn is_newline(c: u32) -> bool
 pub fn is_whitespace(c: u32) -> bool
     ensures { result ≡ is_whitespace c }
 {
-    is_between(NEWLINE, BLANK, class_of(c))
+    matches!(class_of(c), NEWLINE..=BLANK)
 }
 
 pub fn is_digit(c: u32) -> bool
@@ -71,25 +72,25 @@ pub fn is_digit(c: u32) -> bool
 pub fn is_hex_digit(c: u32) -> bool
     ensures { result ≡ is_hex_digit c }
 {
-    is_between(DIGIT, HEX_LETTER, class_of(c))
+    matches!(class_of(c), DIGIT..=HEX_LETTER)
 }
 
 pub fn is_letter(c: u32) -> bool
     ensures { result ≡ is_letter c }
 {
-    is_between(HEX_LETTER, OTHER_LETTER, class_of(c))
+    matches!(class_of(c), HEX_LETTER..=OTHER_LETTER)
 }
 
 pub fn is_ident_start(c: u32) -> bool
     ensures { result ≡ is_ident_start c }
 {
-    is_between(HEX_LETTER, OTHER_IDENT_START, class_of(c))
+    matches!(class_of(c), HEX_LETTER..=OTHER_IDENT_START)
 }
 
 pub fn is_ident(c: u32) -> bool
     ensures { result ≡ is_ident c }
 {
-    is_between(HYPHEN, OTHER_IDENT_START, class_of(c))
+    matches!(class_of(c), HYPHEN..=OTHER_IDENT_START)
 }
 
 pub fn is_non_printable(c: u32) -> bool
@@ -98,24 +99,15 @@ pub fn is_non_printable(c: u32) -> bool
     class_of(c) == NON_PRINTABLE
 }
 
-fn is_between(low: u8, high: u8, class: u8) -> bool
-    ensures { result ≡ within low high class }
-{
-    low <= class && class <= high
-}
-
 /// The value of a hex digit.
+#[tactic(auto, using(std::proofs::lemmas::Bool::Decides::nat_tests), unfolding(crate::specs::Classes::hex_value_if_any, crate::specs::Classes::hex_value, crate::specs::Classes::is_hex_digit))]
 pub fn hex_value(c: u32) -> Option<u32>
     ensures { result ≡ hex_value_if_any c }
 {
-    if !is_hex_digit(c) {
-        return None;
-    }
-    if c <= 0x39 {
-        Some(c - 0x30)
-    } else if c <= 0x46 {
-        Some(c - 0x41 + 10)
-    } else {
-        Some(c - 0x61 + 10)
+    match c {
+        0x30..=0x39 => Some(c - 0x30),
+        0x41..=0x46 => Some(c - 0x41 + 10),
+        0x61..=0x66 => Some(c - 0x61 + 10),
+        _ => None,
     }
 }

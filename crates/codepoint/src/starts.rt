@@ -9,6 +9,7 @@ use crate::class::{is_digit, is_ident_start};
 pub const EOF: u32 = 0;
 
 /// `\` and whatever is no newline, the end of the input too.
+#[tactic(auto, using(std::proofs::lemmas::Bool::Decides::nat_tests), unfolding(crate::specs::Starts::is_valid_escape))]
 pub fn is_valid_escape(first: u32, second: u32) -> bool
     ensures { result ≡ is_valid_escape first second }
 {
@@ -16,6 +17,7 @@ pub fn is_valid_escape(first: u32, second: u32) -> bool
 }
 
 /// Whether three code points start an identifier.
+#[tactic(auto, using(std::proofs::lemmas::Bool::Decides::nat_tests), unfolding(crate::specs::Starts::starts_ident))]
 pub fn starts_ident(first: u32, second: u32, third: u32) -> bool
     ensures { result ≡ starts_ident first second third }
 {
@@ -32,6 +34,7 @@ fn follows_hyphen(second: u32, third: u32) -> bool
 }
 
 /// Whether three code points start a number.
+#[tactic(auto, using(std::proofs::lemmas::Bool::Decides::nat_tests), unfolding(crate::specs::Starts::starts_number, crate::specs::Classes::is_digit))]
 pub fn starts_number(first: u32, second: u32, third: u32) -> bool
     ensures { result ≡ starts_number first second third }
 {

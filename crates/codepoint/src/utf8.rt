@@ -5,7 +5,7 @@ ghost use Rattle.codepoint.specs.Classes.{is_scalar_value, is_surrogate};
 
 pub use crate::encoded::Encoded;
 
-/// What bytes begin with.
+/// What bytes begin with. Three named answers: `Some(Ok((c, len)))` of the library's types would be no plainer.
 #[derive(Clone, Copy, PartialEq, Eq, Debug)]
 pub enum Decoded {
     /// There is no byte.
@@ -22,7 +22,7 @@ pub fn decode(bytes: &[u8]) -> Decoded
 {
     match bytes {
         [] => Decoded::Empty,
-        [a, ..] if *a <= 0x7f => Decoded::Point(*a as u32, 1),
+        [a, ..] if *a <= 0x7f => Decoded::Point(u32::from(*a), 1),
         [a, rest @ ..] if 0xc2 <= *a && *a <= 0xdf => decode_two(*a, rest),
         [a, rest @ ..] if 0xe0 <= *a && *a <= 0xef => decode_three(*a, rest),
         [a, rest @ ..] if 0xf0 <= *a && *a <= 0xf4 => decode_four(*a, rest),
@@ -56,7 +56,7 @@ fn decode_two(a: u8, rest: &[u8]) -> Decoded
 {
     match rest {
         [b, ..] if 0x80 <= *b && *b <= 0xbf => {
-            Decoded::Point((a as u32 - 0xc0) * 64 + (*b as u32 - 0x80), 2)
+            Decoded::Point((u32::from(a) - 0xc0) * 64 + (u32::from(*b) - 0x80), 2)
         }
         _ => Decoded::IllFormed,
     }
@@ -70,8 +70,8 @@ fn decode_three(a: u8, rest: &[u8]) -> Decoded
     let high = highest_after(a);
     match rest {
         [b, c, ..] if low <= *b && *b <= high && 0x80 <= *c && *c <= 0xbf => {
-            let front = (a as u32 - 0xe0) * 64 + (*b as u32 - 0x80);
-            Decoded::Point(front * 64 + (*c as u32 - 0x80), 3)
+            let front = (u32::from(a) - 0xe0) * 64 + (u32::from(*b) - 0x80);
+            Decoded::Point(front * 64 + (u32::from(*c) - 0x80), 3)
         }
         _ => Decoded::IllFormed,
     }
@@ -86,15 +86,16 @@ fn decode_four(a: u8, rest: &[u8]) -> Decoded
     match rest {
         [b, c, d, ..]
             if low <= *b && *b <= high && 0x80 <= *c && *c <= 0xbf && 0x80 <= *d && *d <= 0xbf => {
-            let front = (a as u32 - 0xf0) * 64 + (*b as u32 - 0x80);
-            let middle = front * 64 + (*c as u32 - 0x80);
-            Decoded::Point(middle * 64 + (*d as u32 - 0x80), 4)
+            let front = (u32::from(a) - 0xf0) * 64 + (u32::from(*b) - 0x80);
+            let middle = front * 64 + (u32::from(*c) - 0x80);
+            Decoded::Point(middle * 64 + (u32::from(*d) - 0x80), 4)
         }
         _ => Decoded::IllFormed,
     }
 }
 
 /// Whether UTF-8 can encode the number: at most U+10FFFF, and no surrogate.
+#[tactic(auto, using(std::proofs::lemmas::Bool::Decides::nat_tests), unfolding(crate::specs::Classes::is_scalar_value))]
 pub fn is_scalar_value(c: u32) -> bool
     ensures { result ≡ is_scalar_value c }
 {
@@ -104,10 +105,11 @@ pub fn is_scalar_value(c: u32) -> bool
 fn is_surrogate(c: u32) -> bool
     ensures { result ≡ is_surrogate c }
 {
-    0xd800 <= c && c <= 0xdfff
+    matches!(c, 0xd800..=0xdfff)
 }
 
 /// The bytes of a code point; what is no scalar value has those of U+FFFD.
+#[tactic(auto, using(std::proofs::lemmas::Bool::Decides::nat_tests), unfolding(crate::specs::Classes::is_scalar_value, crate::specs::Utf8::utf8))]
 pub fn encode(c: u32) -> Encoded
     ensures { take result.len result.bytes ≡ utf8 c }
 {

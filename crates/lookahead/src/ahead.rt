@@ -1,7 +1,9 @@
 //! Reading with the next three code points in sight.
+ghost use Rattle.codepoint.specs.Starts.{is_valid_escape, starts_ident, starts_number};
 ghost use Rattle.lookahead.specs.Ahead.{Ahead, EndsAtZero, ending_in_sight, past, peeked};
 ghost use Rattle.std.specs.Prelude.{◌≡◌};
 
+use codepoint::starts::{is_valid_escape, starts_ident, starts_number};
 use refusal::Fault;
 
 /// The next three code points, each `EOF` where the input has ended, and the place of the first.
@@ -11,6 +13,29 @@ pub struct Peek {
     pub second: u32,
     pub third: u32,
     pub place: usize,
+}
+
+impl Peek {
+    /// Whether the first two are a valid escape.
+    pub fn starts_escape(self) -> bool
+        ensures { result ≡ is_valid_escape self.first self.second }
+    {
+        is_valid_escape(self.first, self.second)
+    }
+
+    /// Whether the three start an identifier.
+    pub fn starts_ident(self) -> bool
+        ensures { result ≡ starts_ident self.first self.second self.third }
+    {
+        starts_ident(self.first, self.second, self.third)
+    }
+
+    /// Whether the three start a number.
+    pub fn starts_number(self) -> bool
+        ensures { result ≡ starts_number self.first self.second self.third }
+    {
+        starts_number(self.first, self.second, self.third)
+    }
 }
 
 /// Code points without U+0000, read one after another with three in sight.

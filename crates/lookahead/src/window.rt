@@ -1,20 +1,23 @@
 //! Code points in front of the preprocessing layer.
-ghost use Rattle.std.specs.Prelude.{ℕ, ◌<◌, ◌≤◌, slice_index};
+ghost use Rattle.lookahead.specs.declared.window.TheConstants.{SIZE};
+ghost use Rattle.std.specs.List.{All};
+ghost use Rattle.std.specs.Prelude.{◌<◌, ◌≤◌, take};
 
 use stream::Preprocess;
 
 mod chunk;
 
+/// How many code points a window has room for. The reader allocates nothing, so they lie in an array.
+const SIZE: usize = 64;
+
 /// A source, preprocessed, with some code points in front of it: those of index `at` up to `end`, each with its place.
-/// Two cells more than `end` may reach are there so that two code points can be read behind any index.
 #[derive(Drop)]
 pub struct Window<S> {
     source: Preprocess<S>,
-    codes: [u32; 66],
-    places: [usize; 66],
+    points: [(u32, usize); SIZE],
     at: usize,
     end: usize,
     ghost ordered: { at ≤ end },
-    ghost inside: { end ≤ 64 },
-    ghost filled: { ((i : ℕ) → i < end → 0 < slice_index codes i) },
+    ghost inside: { end ≤ SIZE },
+    ghost filled: { All (λ p. 0 < p.0) (take end points) },
 }

@@ -3,6 +3,7 @@ use Rattle.std.proofs.Common.{◌≡◌, ℕ, Bool, List, Some, Ok, Err, Result,
 use Rattle.refusal.specs.declared.fault.Fault.{Fault}
 use Rattle.stream.proofs.Emitting.{outcome}
 use Rattle.syntax.specs.Tokens.{TokenValue}
+use Rattle.writer.specs.declared.blocks.Blocks.{Blocks}
 use Rattle.writer.specs.declared.writing.Writer.{Writer}
 use Rattle.writer.specs.Refusals.{first_of}
 use Rattle.writer.specs.Runs.{Deed}
@@ -23,7 +24,7 @@ same_fault : {r : Result (Unit {0}) Fault} (f g : Fault) → r ≡ Err g → r �
 same_fault f g h k = cc
 
 module _ {S : Type 0} (held : S → List ℕ) (takes : S → ℕ → Bool) where
-  adds_written : {w v : Writer S} {d : ℕ} {ks : List ℕ} (t : TokenValue) (r : Result (Unit {0}) Fault) → Adds held takes w t d ks r v
+  adds_written : {w v : Writer S} {b : Blocks} (t : TokenValue) (r : Result (Unit {0}) Fault) → Adds held takes w t b r v
       → Written held takes w.sink (bytes_added w.state t) (refusal_in r) v.sink
   adds_written t (Ok u) (whole e a) = outcome held takes (Ok tt) e
   adds_written t (Err f) (broken e a) = outcome held takes (Err f) e
@@ -40,9 +41,9 @@ module _ {S : Type 0} (held : S → List ℕ) (takes : S → ℕ → Bool) where
   calls_are_answered w v (did_put t r) (put_refused {f = f} h) = ruled (did_put t r) f h refl
   calls_are_answered w v (did_put t r) (put_added h a) = let_through (did_put t r) h (adds_written t r a)
   calls_are_answered w v (did_open t r) (open_refused {f = f} h) = ruled (did_open t r) f h refl
-  calls_are_answered w v (did_open t r) (opened h a d k) = let_through (did_open t r) h (adds_written t (Ok tt) a)
-  calls_are_answered w v (did_open t r) (open_broken {f = f} h a) = let_through (did_open t r) h (adds_written t (Err f) a)
+  calls_are_answered w v (did_open t r) (opened h b a d k) = let_through (did_open t r) h (adds_written t (Ok tt) a)
+  calls_are_answered w v (did_open t r) (open_broken {f = f} h b a) = let_through (did_open t r) h (adds_written t (Err f) a)
   calls_are_answered w v (did_close d k r) (close_refused {f = f} h) = ruled (did_close d k r) f h refl
-  calls_are_answered w v (did_close d k r) (close_added h a) = let_through (did_close d k r) h (adds_written _ r a)
+  calls_are_answered w v (did_close d k r) (close_added h b a) = let_through (did_close d k r) h (adds_written _ r a)
   calls_are_answered w v (did_finish r) (finish_refused {f = f} h) = ruled (did_finish r) f h refl
   calls_are_answered w v (did_finish r) (finished h sk a) = let_through (did_finish r) h (ap held sk ∙ sym (append-nil (held w.sink)))

@@ -29,11 +29,11 @@ use Rattle.syntax.proofs.Cutting.{reading_takes_all_once}
 use Rattle.syntax.proofs.Turning.{reading_yields_lawful_in_turn}
 use Rattle.syntax.proofs.Putting.{whitespace_left}
 use Rattle.syntax.proofs.Tested.{test_decides_lawful}
-use Rattle.scan.specs.Ahead.{codes}
-use Rattle.reader.specs.declared.answer.State.TheVariants.{Going}
+use Rattle.lookahead.specs.Ahead.{codes}
 use Rattle.reader.specs.NextToken.{Model, begun}
 use Rattle.reader.specs.Readings.{value_in}
 use Rattle.reader.proofs.Giving.{end_step, fault_step, token_step}
+use Rattle.writer.specs.declared.blocks.Blocks.{Blocks}
 use Rattle.writer.specs.declared.state.State.{State}
 use Rattle.writer.specs.declared.writing.Writer.{Writer}
 use Rattle.writer.specs.Blocks.{is_block_sign}
@@ -48,12 +48,13 @@ use Rattle.normal.specs.Normalizing.{CanRefuse, Transfers, is_repeated}
 use Rattle.normal.specs.Normalizing.CanRefuse.{the_sources, outgrown, bad_token, no_room, not_taken}
 use Rattle.normal.specs.Normalizing.Transfers.{at_the_end, unread, left_out, put_on, not_put}
 use Rattle.normal.proofs.Transferring.{put_is_good, whitespace_is_good}
+use Rattle.writer.specs.declared.counts.Counts.{Counts}
 
 -- a writer that normalize puts into: no block is open, q is awaited, and the flag tells whether whitespace came last
 record Ready (white : Bool) (q : Waiting) (s : State) : Type 0 where
   going : s.finished ≡ false
   unstuck : s.stuck ≡ None
-  flat : s.depth ≡ 0
+  flat : s.blocks.depth ≡ 0
   awaits : s.waiting ≡ q
   white_so : is_whitespace_left s.left ≡ true → white ≡ true
 
@@ -65,10 +66,10 @@ Stays white q = white ≡ true → (t : TokenValue) → is_kind Whitespace t ≡
 skip : {r : Result (Unit {0}) Fault} (b : Bool) (f : Fault) → b ≡ false → cond b (Err f) r ≡ r
 skip b f h = cond-false b (Err f) _ h
 
-none_open : (s : State) → s.depth ≡ 0 → ltb 0 s.depth ≡ false
+none_open : (s : State) → s.blocks.depth ≡ 0 → ltb 0 s.blocks.depth ≡ false
 none_open s h = grind (arith, nat_tests)
 
-no_block : (s : State) (b : Bool) → s.depth ≡ 0 → (ltb 0 s.depth && b) ≡ false
+no_block : (s : State) (b : Bool) → s.blocks.depth ≡ 0 → (ltb 0 s.blocks.depth && b) ≡ false
 no_block s b h = and_left _ b (none_open s h)
 
 -- whitespace directly after whitespace does not come
@@ -81,16 +82,14 @@ not_repeated s white t so single = by (is_whitespace_left s.left) so
 
 -- a good token has no other refusal of put than want of room
 module _ (s : State) (white : Bool) (q : Waiting) (t : TokenValue) (ready : Ready white q s) (single : is_repeated white t ≡ false) where
-  good_put : is_bad t ≡ false → is_lawful t ≡ true → is_in_turn q t ≡ true → first_of (put_refusals s t) ≡ cond (leb 1000000 (s.accepted + s.depth)) (Err (NoRoom s.accepted)) (Ok tt)
-  unfolding put_refusals
+  good_put : is_bad t ≡ false → is_lawful t ≡ true → is_in_turn q t ≡ true → first_of (put_refusals s t) ≡ cond (leb 1000000 (s.accepted + s.blocks.depth)) (Err (NoRoom s.accepted)) (Ok tt)
   good_put good lawful turn =
       skip s.finished _ ready.going ∙ skip (is_some s.stuck) _ (ap is_some ready.unstuck) ∙ skip (is_bad t) _ good ∙ skip (not (is_lawful t)) _ (ap not lawful)
-      ∙ skip (ltb 0 s.depth && is_block_sign t.kind) _ (no_block s _ ready.flat)
+      ∙ skip (ltb 0 s.blocks.depth && is_block_sign t.kind) _ (no_block s _ ready.flat)
       ∙ skip (not (is_in_turn s.waiting t)) _ (ap (λ x. not (is_in_turn x t)) ready.awaits ∙ ap not turn)
       ∙ skip (is_whitespace_left s.left && is_kind Whitespace t) _ (not_repeated s white t ready.white_so single)
 
   bad_put : is_bad t ≡ true → first_of (put_refusals s t) ≡ Err (BadToken s.accepted)
-  unfolding put_refusals
   bad_put bad = skip s.finished _ ready.going ∙ skip (is_some s.stuck) _ (ap is_some ready.unstuck) ∙ cond-true (is_bad t) _ _ bad
 
 -- a token that is not bad is lawful where it is lawful or bad, and is its own mended self
@@ -122,11 +121,10 @@ only_put ending s white q t ready single lawful turn f h = by (is_bad t) refl
 
 -- where nothing is awaited, finish is not refused
 only_finish : {P : Type 0} (s : State) (white : Bool) → Ready white Free s → (f : Fault) → first_of (finish_refusals s) ≡ Err f → P
-unfolding finish_refusals
 only_finish s white ready f h =
     let ok : first_of (finish_refusals s) ≡ Ok tt =
     skip s.finished _ ready.going ∙ skip (is_some s.stuck) _ (ap is_some ready.unstuck)
-    ∙ skip (not (is_free s.waiting)) _ (ap (λ x. not (is_free x)) ready.awaits) ∙ skip (ltb 0 s.depth) _ (none_open s ready.flat) in
+    ∙ skip (not (is_free s.waiting)) _ (ap (λ x. not (is_free x)) ready.awaits) ∙ skip (ltb 0 s.blocks.depth) _ (none_open s ready.flat) in
     let z : ◌≡◌ {A = ℕ} 0 1 = cc in absurd (omega arith)
 
 -- behind whitespace something is awaited only where it stood behind a function named url
@@ -146,11 +144,11 @@ stays_behind q t h = subst (λ x. (u : TokenValue) → is_kind Whitespace u ≡ 
     by false u k turn = behind_whitespace Free u k
 
 -- behind a token that was put
-advanced : {white : Bool} (q : Waiting) (s s' : State) (t : TokenValue) (ks : List ℕ) → Ready white q s → Advanced s t s.depth ks s' → Ready (is_kind Whitespace t) (waiting_after q t) s'
-advanced q s s' t ks ready a = record {
+advanced : {white : Bool} (q : Waiting) (s s' : State) (t : TokenValue) → Ready white q s → Advanced s t s.blocks s' → Ready (is_kind Whitespace t) (waiting_after q t) s'
+advanced q s s' t ready a = record {
   going = a.going ∙ ready.going;
   unstuck = a.unstuck ∙ ready.unstuck;
-  flat = a.deep ∙ ready.flat;
+  flat = ap (λ (b : Blocks). b.depth) a.blocks ∙ ready.flat;
   awaits = a.awaits ∙ ap (λ x. waiting_after x t) ready.awaits;
   white_so = λ e. sym (whitespace_left t) ∙ ap is_whitespace_left (sym a.neighbours) ∙ e;
 }
@@ -171,10 +169,10 @@ headed s (t ∷ ts) v r y e =
 
 module _ {S : Type 0} (held : S → List ℕ) (takes : S → ℕ → Bool) where
   -- the sink's refusal
-  broken_is_not_taken : {w v : Writer S} {d : ℕ} {ks : List ℕ} (ending : Ending) (t : TokenValue) (f : Fault) → Adds held takes w t d ks (Err f) v → CanRefuse ending f
+  broken_is_not_taken : {w v : Writer S} {b : Blocks} (ending : Ending) (t : TokenValue) (f : Fault) → Adds held takes w t b (Err f) v → CanRefuse ending f
   broken_is_not_taken ending t f (broken e a) = let o = outcome held takes (Err f) e in subst (CanRefuse ending) (sym o.4) not_taken
 
-  only_these : {white : Bool} {m m' : Model} {cells cells' : List ℕ} {w u : Writer S} (f : Fault) (ts : List TokenValue) (q : Waiting) → m.state ≡ Going → Yields (codes m.ahead) ts
+  only_these : {white : Bool} {m m' : Model} {cells cells' : List ℕ} {w u : Writer S} (f : Fault) (ts : List TokenValue) (q : Waiting) → m.told ≡ None → Yields (codes m.ahead) ts
       → Each LawfulOrBad ts → InTurn q (map mended ts) → Ready white q w.state → Stays white q
       → Transfers held takes white m cells w (Err f) m' cells' u → CanRefuse m.ahead.ending f
   only_these {white} {m} {m'} {cells} {cells'} {w} f [] q g y each turn ready stays (at_the_end p h (finish_refused rule)) =
@@ -205,7 +203,7 @@ module _ {S : Type 0} (held : S → List ℕ) (takes : S → ℕ → Bool) where
       (only_these f head.rest (waiting_after q v) step.1 head.yields e.1 (subst (λ x. InTurn (waiting_after q x) (map mended head.rest)) same i.1) (after p) (stays_behind q v) rest)
     where
       after : {v : TokenValue} → Puts held takes w v (Ok tt) w₁ → Ready (is_kind Whitespace v) (waiting_after q v) w₁.state
-      after {v} (put_added rule (whole x a)) = advanced q w.state w₁.state v w.state.kinds ready a
+      after {v} (put_added rule (whole x a)) = advanced q w.state w₁.state v ready a
   only_these {white} {m} {cells = cells} {w = w} f ts q g y each turn ready stays (not_put {m₁ = m₁} {cells₁ = cells₁} t h single p) =
       let step = token_step m m₁ cells cells₁ t g h in
       let v = value_in t cells₁ in
@@ -219,7 +217,7 @@ module _ {S : Type 0} (held : S → List ℕ) (takes : S → ℕ → Bool) where
       by (put_added rule a) l i = broken_is_not_taken m.ahead.ending (value_in t cells₁) f a
 
   -- whatever a transfer from a new reader into a new writer answers
-  pub only_these_refusals : (points : List Placed) (ending : Ending) → AllWithin points → {m' : Model} {cells cells' : List ℕ} {w u : Writer S} (r : Result (ℕ × ℕ) Fault) → Fresh w.state
+  pub only_these_refusals : (points : List Placed) (ending : Ending) → AllWithin points → {m' : Model} {cells cells' : List ℕ} {w u : Writer S} (r : Result Counts Fault) → Fresh w.state
       → Transfers held takes false (begun points ending) cells w r m' cells' u → IfErr r (λ f. CanRefuse ending f)
   only_these_refusals points ending within (Ok n) fresh h = tt
   only_these_refusals points ending within {w = w} (Err f) fresh h =

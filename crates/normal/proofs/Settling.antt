@@ -1,5 +1,5 @@
 -- The normal-form law, from what finished runs write, what written tokens read back as, and what a transfer has put.
-use Rattle.std.proofs.Common.{◌≡◌, ℕ, Bool, List, length, Some, sym, refl, ap, ◌∙◌, subst}
+use Rattle.std.proofs.Common.{◌≡◌, ℕ, Bool, List, Some, sym, refl, ap, ◌∙◌, subst}
 use Rattle.codepoint.specs.Utf8.{code_points_of, points_from}
 use Rattle.stream.specs.Preprocess.{AllPreprocessed, Placed, preprocessed}
 use Rattle.stream.specs.Sources.{Ending}
@@ -7,7 +7,7 @@ use Rattle.stream.specs.Within.{byte_within}
 use Rattle.stream.proofs.Preprocessing.{cleans, clean_stays}
 use Rattle.syntax.specs.Tokens.{TokenValue}
 use Rattle.syntax.specs.Reading.{Yields}
-use Rattle.syntax.specs.Written.{Fit, collapsed, comments_in, written_bytes}
+use Rattle.syntax.specs.Written.{Fit, collapsed, written_bytes}
 use Rattle.syntax.proofs.Chains.{yields_once}
 use Rattle.syntax.proofs.Collapsing.{collapsed_twice}
 use Rattle.syntax.proofs.Putting.{put_adds_one_token, accepted_may_finish}
@@ -20,6 +20,8 @@ use Rattle.writer.proofs.RunLaws.{finished_runs_write_their_tokens}
 use Rattle.normal.specs.Law.{BytesAndTokensAgree, FinishedBytesReadBack, FinishedNormalize, NormalFormLaw, NormalFormsAreSettled, Over, ReadsBackAs}
 use Rattle.normal.proofs.Answering.{calls_are_answered}
 use Rattle.normal.proofs.Transferring.{came}
+use Rattle.writer.specs.declared.counts.Counts.{Counts}
+use Rattle.writer.specs.Counts.{counts_of}
 
 -- what a finished run has written
 wrote : {S : Type 0} (held : S → List ℕ) (takes : S → ℕ → Bool) (s : S) (ds : List Deed) (u : Writer S) → FinishedRun held takes s ds u → WritesItsTokens held s ds u
@@ -57,28 +59,28 @@ bytes_and_tokens_agree held_a takes_a held_b takes_b s ds u t es y r q =
     (λ e. both.0 (sym a.bytes ∙ e ∙ b.bytes), λ e. a.bytes ∙ both.1 e ∙ sym b.bytes)
 
 -- what a finished normalize has read and written
-record Normal {P S : Type 0} (ahead : P → List Placed) (held : S → List ℕ) (p : P) (s : S) (n : ℕ × ℕ) (u : Writer S) : Type 0 where
+record Normal {P S : Type 0} (ahead : P → List Placed) (held : S → List ℕ) (p : P) (s : S) (n : Counts) (u : Writer S) : Type 0 where
   tokens : List TokenValue
   yields : Yields (code_points_of (preprocessed (ahead p))) tokens
   fit : Fit (collapsed tokens)
   bytes : bytes_beyond held s u ≡ written_bytes (collapsed tokens)
-  counts : n ≡ (length (collapsed tokens), comments_in (collapsed tokens))
+  counts : n ≡ counts_of (collapsed tokens)
 
-normal : {P S : Type 0} (ahead : P → List Placed) (ending : P → Ending) (held : S → List ℕ) (takes : S → ℕ → Bool) (p : P) (s : S) (n : ℕ × ℕ) (u : Writer S)
+normal : {P S : Type 0} (ahead : P → List Placed) (ending : P → Ending) (held : S → List ℕ) (takes : S → ℕ → Bool) (p : P) (s : S) (n : Counts) (u : Writer S)
     → FinishedNormalize ahead ending held takes p s n u → Normal ahead held p s n u
 normal ahead ending held takes p s n u f =
     let run = f.normalizes in
     let c = came held takes n refl run.transfers in
     let told = wrote held takes s c.deeds u (record { first = run.first; new = run.new; run = c.run; ends = c.ends }) in
     let all = c.puts_all in
-    let counted : Some n ≡ Some (length (accepted c.deeds), comments_in (accepted c.deeds)) = sym c.answer ∙ told.answer in
-    let told-so : n ≡ (length (accepted c.deeds), comments_in (accepted c.deeds)) = cc in
+    let counted : Some n ≡ Some (counts_of (accepted c.deeds)) = sym c.answer ∙ told.answer in
+    let told-so : n ≡ counts_of (accepted c.deeds) = cc in
     record {
       tokens = c.tokens;
       yields = c.yields;
       fit = subst Fit all told.fit;
       bytes = told.bytes ∙ ap written_bytes all;
-      counts = told-so ∙ ap (λ ts. (length ts, comments_in ts)) all;
+      counts = told-so ∙ ap counts_of all;
     }
 
 module _ {P Q A B : Type 0} (ahead_p : P → List Placed) (ending_p : P → Ending) (ahead_q : Q → List Placed) (ending_q : Q → Ending)
@@ -96,7 +98,7 @@ module _ {P Q A B : Type 0} (ahead_p : P → List Placed) (ending_p : P → Endi
             let over : Over (ahead_q q) (ending_q q) (written_bytes (collapsed ts)) = subst (Over (ahead_q q) (ending_q q)) one.bytes o in
             let same : two.tokens ≡ collapsed ts = yields_once _ two.tokens (collapsed ts) two.yields (yields_over (ahead_q q) (ending_q q) (collapsed ts) one.fit over) in
             let settled : collapsed two.tokens ≡ collapsed ts = ap collapsed same ∙ collapsed_twice ts in
-            (two.bytes ∙ ap written_bytes settled ∙ sym one.bytes, two.counts ∙ ap (λ x. (length x, comments_in x)) settled ∙ sym one.counts);
+            (two.bytes ∙ ap written_bytes settled ∙ sym one.bytes, two.counts ∙ ap counts_of settled ∙ sym one.counts);
         read_back = subst (λ bs. ReadsBackAs ahead_q ending_q bs (collapsed ts)) (sym one.bytes) (reads_back ahead_q ending_q (collapsed ts) one.fit);
       }
 

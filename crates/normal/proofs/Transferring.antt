@@ -1,5 +1,5 @@
 -- A transfer that was not refused has read all tokens, none of them bad, and is a run that put them collapsed and finished.
-use Rattle.std.proofs.Common.{◌≡◌, ℕ, Bool, true, false, ◌&&◌, List, [], ◌∷◌, Some, Ok, sym, refl, ap, ◌∙◌, arith}
+use Rattle.std.proofs.Common.{◌≡◌, ℕ, Bool, true, false, ◌&&◌, List, [], ◌∷◌, Some, Ok, sym, refl, ap, ◌∙◌, arith, None}
 use Rattle.std.proofs.lemmas.Bool.{and_parts, cond-true, cond-false}
 use Rattle.std.proofs.lemmas.Bool.Decides.{nat_tests}
 use Rattle.syntax.specs.declared.kind.Kind.{Kind}
@@ -9,8 +9,7 @@ use Rattle.syntax.specs.Tokens.{TokenValue, is_bad, is_kind}
 use Rattle.syntax.specs.Reading.{Yields}
 use Rattle.syntax.specs.Written.{Each, collapsed_after}
 use Rattle.syntax.proofs.Tested.{test_decides_lawful}
-use Rattle.scan.specs.Ahead.{codes}
-use Rattle.reader.specs.declared.answer.State.TheVariants.{Going}
+use Rattle.lookahead.specs.Ahead.{codes}
 use Rattle.reader.specs.NextToken.{Model}
 use Rattle.reader.specs.Readings.{value_in}
 use Rattle.reader.proofs.Giving.{token_step, end_step}
@@ -24,6 +23,7 @@ use Rattle.writer.specs.Writes.Puts.{put_added}
 use Rattle.writer.proofs.Admitted.{put_lets_through}
 use Rattle.normal.specs.Normalizing.{Transfers}
 use Rattle.normal.specs.Normalizing.Transfers.{at_the_end, left_out, put_on}
+use Rattle.writer.specs.declared.counts.Counts.{Counts}
 
 pub whitespace_is_good : (k : Kind) → same_kind k Whitespace ≡ true → is_bad_kind k ≡ false
 whitespace_is_good k h = grind (arith, nat_tests)
@@ -34,11 +34,11 @@ module _ {S : Type 0} (held : S → List ℕ) (takes : S → ℕ → Bool) where
   put_is_good {w} t (put_added h a) = ((test_decides_lawful t).0 (put_lets_through w.state t h).lawful).not_bad
 
   -- finish was not refused, so the writer has finished
-  finish_ends : {w u : Writer S} (n : ℕ × ℕ) → Finishes held takes w (Ok n) u → u.state.finished ≡ true
+  finish_ends : {w u : Writer S} (n : Counts) → Finishes held takes w (Ok n) u → u.state.finished ≡ true
   finish_ends n (finished h sk a) = a.going
 
   -- what a transfer from m and w to u has read and put
-  pub record Came (white : Bool) (m : Model) (w u : Writer S) (n : ℕ × ℕ) : Type 0 where
+  pub record Came (white : Bool) (m : Model) (w u : Writer S) (n : Counts) : Type 0 where
     pub tokens : List TokenValue
     pub yields : Yields (codes m.ahead) tokens
     pub good : Each (λ (t : TokenValue). is_bad t ≡ false) tokens
@@ -48,7 +48,7 @@ module _ {S : Type 0} (held : S → List ℕ) (takes : S → ℕ → Bool) where
     pub answer : finale deeds ≡ Some n
     pub ends : u.state.finished ≡ true
 
-  pub came : {white : Bool} {m m' : Model} {cells cells' : List ℕ} {w u : Writer S} (n : ℕ × ℕ) → m.state ≡ Going
+  pub came : {white : Bool} {m m' : Model} {cells cells' : List ℕ} {w u : Writer S} (n : Counts) → m.told ≡ None
       → Transfers held takes white m cells w (Ok n) m' cells' u → Came white m w u n
   unfolding collapsed_after
   came {m = m} {m' = m'} {cells = cells} {cells' = cells'} n g (at_the_end p h f) = record {

@@ -9,7 +9,7 @@ use Rattle.stream.specs.Sources.{Ending}
 use Rattle.stream.specs.Sources.Ending.{ends}
 use Rattle.syntax.specs.Reading.{Yields}
 use Rattle.syntax.specs.Tokens.{TokenValue}
-use Rattle.syntax.specs.Written.{collapsed, comments_in}
+use Rattle.syntax.specs.Written.{collapsed}
 use Rattle.reader.specs.NextToken.{Model, begun}
 use Rattle.reader.specs.Readings.{Reading}
 use Rattle.writer.specs.declared.state.State.{State}
@@ -20,6 +20,8 @@ use Rattle.writer.specs.Runs.{CallValue, Deed, Does, FinishedRun, RunOf, accepte
 use Rattle.writer.specs.Runs.Deed.{did_put, did_open, did_close, did_finish}
 use Rattle.writer.specs.Writes.{New, bytes_added}
 use Rattle.normal.specs.Normalizing.{Normalizes}
+use Rattle.writer.specs.declared.counts.Counts.{Counts}
+use Rattle.writer.specs.Counts.{counts_of}
 
 -- a call's refusals in their order, the bytes that it is to write, and its refusal, if it was refused
 abbrev pub refusals_of : State → Deed → List (Bool × Fault)
@@ -62,7 +64,7 @@ pub record Over (points : List Placed) (ending : Ending) (bs : List ℕ) : Type 
   pub to_the_end : ending ≡ ends place
 
 -- a normalize over the source p and the sink s that was not refused, its answer, and the writer that it left
-pub record FinishedNormalize {P S : Type 0} (ahead : P → List Placed) (ending : P → Ending) (held : S → List ℕ) (takes : S → ℕ → Bool) (p : P) (s : S) (answer : ℕ × ℕ) (u : Writer S) : Type 0 where
+pub record FinishedNormalize {P S : Type 0} (ahead : P → List Placed) (ending : P → Ending) (held : S → List ℕ) (takes : S → ℕ → Bool) (p : P) (s : S) (answer : Counts) (u : Writer S) : Type 0 where
   pub cells : List ℕ
   pub last : Model
   pub cells_then : List ℕ
@@ -89,17 +91,17 @@ FinishedBytesReadBack {P} {S} ahead ending held takes =
 
 -- a second normalize over the bytes of a first one changes no byte, and they read back as the first input's tokens, collapsed
 pub record Settles {P Q A B : Type 0} (ahead_p : P → List Placed) (ending_p : P → Ending) (ahead_q : Q → List Placed) (ending_q : Q → Ending)
-    (held_a : A → List ℕ) (takes_a : A → ℕ → Bool) (held_b : B → List ℕ) (takes_b : B → ℕ → Bool) (p : P) (s : A) (answer : ℕ × ℕ) (u : Writer A) : Type 0 where
+    (held_a : A → List ℕ) (takes_a : A → ℕ → Bool) (held_b : B → List ℕ) (takes_b : B → ℕ → Bool) (p : P) (s : A) (answer : Counts) (u : Writer A) : Type 0 where
   pub input_tokens : List TokenValue
   pub yielded : Yields (code_points_of (preprocessed (ahead_p p))) input_tokens
-  pub counted : answer ≡ (length (collapsed input_tokens), comments_in (collapsed input_tokens))
-  pub second : (q : Q) (t : B) (again : ℕ × ℕ) (y : Writer B) → Over (ahead_q q) (ending_q q) (bytes_beyond held_a s u)
+  pub counted : answer ≡ counts_of (collapsed input_tokens)
+  pub second : (q : Q) (t : B) (again : Counts) (y : Writer B) → Over (ahead_q q) (ending_q q) (bytes_beyond held_a s u)
       → FinishedNormalize ahead_q ending_q held_b takes_b q t again y → (bytes_beyond held_b t y ≡ bytes_beyond held_a s u) × (again ≡ answer)
   pub read_back : ReadsBackAs ahead_q ending_q (bytes_beyond held_a s u) (collapsed input_tokens)
 
 abbrev pub NormalFormsAreSettled : {P Q A B : Type 0} → (P → List Placed) → (P → Ending) → (Q → List Placed) → (Q → Ending) → (A → List ℕ) → (A → ℕ → Bool) → (B → List ℕ) → (B → ℕ → Bool) → Type 0
 NormalFormsAreSettled {P} {Q} {A} {B} ahead_p ending_p ahead_q ending_q held_a takes_a held_b takes_b =
-    (p : P) (s : A) (answer : ℕ × ℕ) (u : Writer A) → FinishedNormalize ahead_p ending_p held_a takes_a p s answer u → Settles ahead_p ending_p ahead_q ending_q held_a takes_a held_b takes_b p s answer u
+    (p : P) (s : A) (answer : Counts) (u : Writer A) → FinishedNormalize ahead_p ending_p held_a takes_a p s answer u → Settles ahead_p ending_p ahead_q ending_q held_a takes_a held_b takes_b p s answer u
 
 -- the law, whole
 pub record NormalFormLaw {P Q A B : Type 0} (ahead_p : P → List Placed) (ending_p : P → Ending) (ahead_q : Q → List Placed) (ending_q : Q → Ending)

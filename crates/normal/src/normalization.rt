@@ -9,14 +9,14 @@ use reader::{Next, Reader, view};
 use refusal::Fault;
 use stream::{Sink, Source};
 use syntax::kind::Kind;
-use writer::Writer;
+use writer::{Counts, Writer};
 
 /// What normalize answered, and the reader and the writer that it left.
 #[derive(Drop)]
 pub struct Normalized<P, S> {
     pub reader: Reader<P>,
     pub writer: Writer<S>,
-    pub answer: Result<(usize, usize), Fault>,
+    pub answer: Result<Counts, Fault>,
 }
 
 /// Reads the tokens of a source into cells, leaves out whitespace directly after whitespace, and puts all others into
@@ -40,33 +40,22 @@ fn transfer<P: Source, S: Sink>(
     reader: &mut Reader<P>,
     writer: &mut Writer<S>,
     cells: &mut [u32],
-) -> Result<(usize, usize), Fault>
+) -> Result<Counts, Fault>
     ensures { Transfers S.Sink.held S.Sink.takes false (model_of P.Source.ahead P.Source.ending reader.old) cells.old writer.old result (model_of P.Source.ahead P.Source.ending reader.new) cells.new writer.new }
 {
     let mut after_whitespace = false;
-    loop {
-        let next = reader.next_token(cells)?;
-        let token = match next {
-            Next::Token(token) => token,
-            Next::End(_) => return writer.finish(),
-        };
-        if is_repeated(after_whitespace, token.kind) {
-            continue;
+    while let Next::Token(token) = reader.next_token(cells)? {
+        if !is_repeated(after_whitespace, token.kind) {
+            writer.put(view(token, cells))?;
         }
-        writer.put(view(token, cells))?;
-        after_whitespace = is_whitespace(token.kind);
+        after_whitespace = token.kind == Kind::Whitespace;
     }
+    writer.finish()
 }
 
 /// Whitespace directly after whitespace.
 fn is_repeated(after_whitespace: bool, kind: Kind) -> bool
     ensures { result ≡ (after_whitespace && same_kind kind Whitespace) }
 {
-    after_whitespace && is_whitespace(kind)
-}
-
-fn is_whitespace(kind: Kind) -> bool
-    ensures { result ≡ same_kind kind Whitespace }
-{
-    matches!(kind, Kind::Whitespace)
+    after_whitespace && kind == Kind::Whitespace
 }

@@ -9,8 +9,9 @@ use Rattle.writer.specs.declared.writing.Writer.{Writer}
 use Rattle.normal.specs.Normalizing.{Normalizes}
 use Rattle.program.specs.Forming.{Forms}
 use Rattle.program.specs.Forming.Forms.{formed}
+use Rattle.writer.specs.declared.counts.Counts.{Counts}
 
-pub formed_from_bytes : {S : Type 0} (held : S → List ℕ) (takes : S → ℕ → Bool) {s s' : S} (sheet : List ℕ) {cells cells' : List ℕ} {points : List Placed} {ending : Ending} {r : Result (ℕ × ℕ) Fault} {m' : Model} {w' : Writer S}
+pub formed_from_bytes : {S : Type 0} (held : S → List ℕ) (takes : S → ℕ → Bool) {s s' : S} (sheet : List ℕ) {cells cells' : List ℕ} {points : List Placed} {ending : Ending} {r : Result Counts Fault} {m' : Model} {w' : Writer S}
     → length sheet ≤ 32768 → points ≡ points_from 0 0 sheet → ending ≡ byte_ending 0 sheet → s' ≡ w'.sink
     → Normalizes held takes points ending s cells r m' cells' w' → Forms held takes s sheet cells r s' cells'
 formed_from_bytes held takes {s} {s'} sheet {cells} {cells'} {points} {ending} {r} {m'} {w'} short p e k n =

@@ -9,6 +9,7 @@ ghost use Rattle.program.specs.Forming.{Forms};
 use normal::{Normalized, normalize};
 use refusal::Fault;
 use stream::{ByteSource, Sink};
+use writer::Counts;
 
 /// The most bytes that a sheet may have.
 pub const INPUT_LIMIT: usize = 32768;
@@ -23,7 +24,7 @@ pub const OUTPUT_CELLS: usize = 65536;
 #[derive(Drop)]
 pub struct Formed<S> {
     pub sink: S,
-    pub answer: Result<(usize, usize), Fault>,
+    pub answer: Result<Counts, Fault>,
 }
 
 /// Writes the normal form of a sheet into a sink, with cells for the texts of its tokens.

@@ -1,6 +1,8 @@
 -- What next_token answers while it goes on.
-use Rattle.std.proofs.Common.{◌≡◌, ℕ, zero, suc, ◌+◌, ◌-◌, ◌<◌, ◌≤◌, Bool, true, false, cond, ltb, List, [], ◌∷◌, ◌++◌, length, get_or, drop, Ok, Err, Result, sym, refl, ap, ◌∙◌, subst, zero-add, arith, length-append, length-drop}
-use Rattle.std.proofs.lemmas.Bool.{lt-ltb, le-ltb, ltb-false, cond-true, cond-false}
+use Rattle.std.proofs.Common.{◌≡◌, ℕ, zero, suc, ◌+◌, ◌-◌, ◌≤◌, Bool, true, false, cond, ltb, List, [], ◌∷◌, ◌++◌, length, get_or, drop, Some, None, Option, Ok, Err, Result, sym, refl, ap, ◌∙◌, subst, add-zero, get_or-drop, arith, length-append, length-drop}
+use Rattle.std.specs.Option.{option_transpose}
+use Rattle.std.proofs.Math.Seq.{drop-nil}
+use Rattle.std.proofs.lemmas.Bool.{le-ltb, ltb-false, cond-true, cond-false}
 use Rattle.codepoint.specs.Utf8.{code_points_of}
 use Rattle.refusal.specs.declared.fault.Fault.{Fault}
 use Rattle.refusal.specs.declared.fault.Fault.TheVariants.{Outgrown}
@@ -13,13 +15,11 @@ use Rattle.syntax.specs.Bodies.{past_comments}
 use Rattle.syntax.specs.Reading.{Found, next, next_at, token_of}
 use Rattle.syntax.specs.Reading.Next.{token}
 use Rattle.syntax.specs.Extents.{before, taken, taken_at, collected, collected_at}
-use Rattle.scan.specs.declared.fill.Fill.{Fill}
-use Rattle.scan.specs.declared.lookahead.Peek.{Peek}
-use Rattle.scan.specs.Ahead.{Ahead, EndsAtZero, Left, codes, past, peeked}
-use Rattle.scan.specs.Fills.{onto, filled, laid, empty}
-use Rattle.scan.proofs.Cells.{filled_outgrown, laid_words}
+use Rattle.lookahead.specs.declared.ahead.Peek.{Peek}
+use Rattle.lookahead.specs.Ahead.{Ahead, EndsAtZero, Left, codes, ending_in_sight, past, peeked}
+use Rattle.scan.specs.Fills.{laid}
+use Rattle.scan.proofs.Cells.{filled_words, laid_words}
 use Rattle.scan.proofs.States.{same, past_past, length_codes}
-use Rattle.scan.proofs.Arms.{third_is}
 use Rattle.reader.specs.declared.answer.Located.{Located}
 use Rattle.reader.specs.declared.answer.Next.{Next}
 use Rattle.reader.specs.declared.answer.Next.TheVariants.{Token, End}
@@ -29,12 +29,8 @@ use Rattle.reader.specs.NextToken.{Answers, answered, end_answer, located, overw
 use Rattle.reader.proofs.Textual.{first_shown}
 
 -- what is left determines how many were passed over
-drop_none : {A : Type 0} (m : ℕ) → drop {A = A} m [] ≡ []
-drop_none zero = refl
-drop_none (suc m) = refl
-
 pub drop_exactly : {A : Type 0} (k : ℕ) (s : List A) → drop k s ≡ drop (length s - (length s - k)) s
-drop_exactly k [] = drop_none k ∙ sym (drop_none (0 - (0 - k)))
+drop_exactly k [] = drop-nil k ∙ sym (drop-nil (0 - (0 - k)))
 drop_exactly zero (c ∷ s) = ap (λ n. drop n (c ∷ s)) (let e : 0 ≡ suc (length s) - (suc (length s) - 0) = omega arith in e)
 drop_exactly (suc k) (c ∷ s) = drop_exactly k s ∙ ap (λ n. drop n (c ∷ s)) (let e : suc (length s - (length s - k)) ≡ suc (length s) - (suc (length s) - suc k) = omega arith in e)
 
@@ -44,40 +40,43 @@ left_exactly {w} {w'} {r} a =
     let m = length_codes w.list in
     a.passed ∙ same _ _ (drop_exactly a.count w.list) refl ∙ ap (λ k. past k w) (let e : length w.list - (length w.list - a.count) ≡ length (codes w) - length r = omega arith in e)
 
-first_of_drop : (ps : List Placed) (k : ℕ) → get_or (drop k ps) 0 (0, 0) ≡ get_or ps k (0, 0)
-first_of_drop ps zero = refl
-first_of_drop [] (suc k) = refl
-first_of_drop (p ∷ ps) (suc k) = first_of_drop ps k
-
 -- the ending, as it is told
-pub end_told : (p : ℕ) (e : Ending) → Ok p ≡ ended e → Ok (End p) ≡ end_answer e
-end_told p (ends q) h = let z : p ≡ q = cc h in ap (λ x. Ok (End x)) z
-end_told p (stops f) h = let z : ◌≡◌ {A = ℕ} 0 1 = cc h in absurd (omega arith)
+module _ (o : Option (Result ℕ Fault)) where
+  pub end_told : (p : ℕ) (e : Ending) → o ≡ Some (ended e) → o ≡ Some (Ok p) → Ok (End p) ≡ end_answer e
+  end_told p (ends q) h k = let z : p ≡ q = cc (h, k) in ap (λ x. Ok (End x)) z
+  end_told p (stops f) h k = absurd (cc (h, k))
 
-pub fault_told : (f : Fault) (e : Ending) → Err f ≡ ended e → Err f ≡ end_answer e
-fault_told f (ends q) h = let z : ◌≡◌ {A = ℕ} 0 1 = cc h in absurd (omega arith)
-fault_told f (stops g) h = let z : f ≡ g = cc h in ap Err z
+  pub fault_told : (f : Fault) (e : Ending) → o ≡ Some (ended e) → o ≡ Some (Err f) → Err f ≡ end_answer e
+  fault_told f (ends q) h k = absurd (cc (h, k))
+  fault_told f (stops g) h k = let z : f ≡ g = cc (h, k) in ap Err z
 
-not_stopped : (p : ℕ) (e : Ending) (r : Result Next Fault) → Ok p ≡ ended e → r ≡ unless_stopped e r
-not_stopped p (ends q) r h = refl
-not_stopped p (stops f) r h = let z : ◌≡◌ {A = ℕ} 0 1 = cc h in absurd (omega arith)
+-- at the end it is in sight
+pub told_at_zero : (s sl : Ahead) (w : Peek) (o : Option (Result ℕ Fault)) → sl ≡ s → EndsAtZero w s.list → w.first ≡ 0 → o ≡ ending_in_sight sl → o ≡ Some (ended sl.ending)
+unfolding ending_in_sight
+told_at_zero s sl w o l at z e = e ∙ ap (λ ps. cond (ltb (length ps) 3) (Some (ended sl.ending)) None) (ap (λ x. x.list) l ∙ at.none z)
 
-stopped : (f : Fault) (e : Ending) (r : Result Next Fault) → Err f ≡ ended e → Err f ≡ unless_stopped e r
-stopped f (ends q) r h = let z : ◌≡◌ {A = ℕ} 0 1 = cc h in absurd (omega arith)
-stopped f (stops g) r h = let z : f ≡ g = cc h in ap Err z
+-- where it is in sight it may be a fault, which takes an answer's place
+module _ (w : Ahead) (r : Result Next Fault) where
+  unless_in_sight : Result Next Fault
+  unless_in_sight = cond (ltb (length w.list) 3) (unless_stopped w.ending r) r
 
--- how few are left
-pub none_left : (s sl : Ahead) (w : Peek) → sl ≡ s → EndsAtZero w s.list → w.first ≡ 0 → length sl.list ≤ 2
-none_left s sl w l at z = let n = ap length (ap (λ x. x.list) l ∙ at.none z) in omega arith
+  not_stopped : (o : Option ℕ) → Ok o ≡ option_transpose (ending_in_sight w) → r ≡ unless_in_sight
+  unfolding ending_in_sight unless_in_sight
+  not_stopped o h = by (ltb (length w.list) 3) w.ending h
+    where
+      by : (b : Bool) (e : Ending) → Ok o ≡ option_transpose (cond b (Some (ended e)) None) → r ≡ cond b (unless_stopped e r) r
+      by false e k = refl
+      by true (ends p) k = refl
+      by true (stops f) k = absurd (cc k)
 
-pub two_left : (s sl : Ahead) (w : Peek) → sl ≡ s → EndsAtZero w s.list → w.third ≡ 0 → length sl.list ≤ 2
-two_left s sl w l at z = let n = ap (λ x. length x.list) l in let m = at.two z in omega arith
-
-three_left : (ps : List Placed) (u : Peek) → u ≡ peeked ps → (u.third ≡ 0 → ⊥) → 3 ≤ length ps
-three_left [] u seen n = absurd (n (third_is [] u seen))
-three_left (p ∷ []) u seen n = absurd (n (third_is (p ∷ []) u seen))
-three_left (p ∷ q ∷ []) u seen n = absurd (n (third_is (p ∷ q ∷ []) u seen))
-three_left (p ∷ q ∷ r ∷ ps) u seen n = omega arith
+  stopped : (f : Fault) → Err f ≡ option_transpose (ending_in_sight w) → Err f ≡ unless_in_sight
+  unfolding ending_in_sight unless_in_sight
+  stopped f h = by (ltb (length w.list) 3) w.ending h
+    where
+      by : (b : Bool) (e : Ending) → Err f ≡ option_transpose (cond b (Some (ended e)) None) → Err f ≡ cond b (unless_stopped e r) r
+      by false e k = absurd (cc k)
+      by true (ends p) k = absurd (cc k)
+      by true (stops g) k = let z : f ≡ g = cc k in ap Err z
 
 -- no token is left
 pub ended_answers : (v s1 sl s2 : Ahead) (cells : List ℕ) (w : Peek) (r : Result Next Fault) → Left v (past_comments (codes v)) s1 → sl ≡ s1 → EndsAtZero w s1.list → w.first ≡ 0 → s2 ≡ sl → r ≡ end_answer sl.ending → Answers v cells r cells s2
@@ -109,37 +108,22 @@ module _ (s : List ℕ) (z : get_or (past_comments s) 0 0 ≡ 0 → ⊥) where
   unfolding taken
   taken_found = sym (ap taken_at (front_stands (past_comments s) z)) ∙ ap (λ x. length x - length (found_from (past_comments s)).rest) (front_stands (past_comments s) z)
 
-filled_len : (cap : ℕ) (f : Fill) (t : List ℕ) → f.len + length t ≤ cap → (filled cap f t).len ≡ f.len + length t
-unfolding filled
-filled_len cap f [] h = omega arith
-filled_len cap f (c ∷ t) h =
-    let o : onto cap f ≡ record { len = f.len + 1; outgrown = f.outgrown } = cond-true _ _ _ (lt-ltb f.len cap (omega arith)) in
-    ap (λ g. (filled cap g t).len) o ∙ filled_len cap (record { len = f.len + 1; outgrown = f.outgrown }) t (omega arith) ∙ (let e : f.len + 1 + length t ≡ f.len + suc (length t) = omega arith in e)
-
--- the token as it is given
-located_found : (cap place : ℕ) (f : Found) (read : Read) → read.kind ≡ f.kind → read.mark ≡ f.mark → read.text ≡ filled cap empty f.text → read.all ≡ filled cap empty (f.text ++ f.unit) → length (f.text ++ f.unit) ≤ cap
-    → record { kind = read.kind; mark = read.mark; text = cond (is_bad_kind read.kind) 0 read.text.len; unit = read.all.len - read.text.len; place = place } ≡ located place (token_of f)
-unfolding token_of
-located_found cap place f read k m t a le =
-    let n = length-append f.text f.unit in
-    let tl : read.text.len ≡ length f.text = ap (λ (x : Fill). x.len) t ∙ filled_len cap empty f.text (omega arith) ∙ zero-add _ in
-    let al : read.all.len ≡ length (f.text ++ f.unit) = ap (λ (x : Fill). x.len) a ∙ filled_len cap empty (f.text ++ f.unit) (omega arith) ∙ zero-add _ in
-    let ul : read.all.len - read.text.len ≡ length f.unit = omega arith in
-    let bad : cond (is_bad_kind read.kind) 0 read.text.len ≡ length (cond (is_bad_kind f.kind) [] f.text) = ap (λ x. cond (is_bad_kind x) 0 read.text.len) k ∙ ap (cond (is_bad_kind f.kind) 0) tl ∙ by (is_bad_kind f.kind) in
-    λ i. record { kind = k i; mark = m i; text = bad i; unit = ul i; place = place }
-  where
-    by : (b : Bool) → cond b 0 (length f.text) ≡ length (cond b [] f.text)
-    by true = refl
-    by false = refl
+-- of a bad token no text is given
+given_length : (b : Bool) (t : List ℕ) → cond b 0 (length t) ≡ length (cond b [] t)
+given_length true t = refl
+given_length false t = refl
 
 module _ (v s1 sl : Ahead) (c0 c1 : List ℕ) (s2 : Ahead) (w : Peek) (read : Read) (k : Left v (past_comments (codes v)) s1) (l : sl ≡ s1) (seen : w ≡ peeked s1.list) (z : w.first ≡ 0 → ⊥) (a : Reads c0 sl (found_from (codes sl)) c1 read s2) where
+  abbrev here : Found
+  here = found_from (past_comments (codes v))
+
   codes_are : codes sl ≡ past_comments (codes v)
   codes_are = ap codes l ∙ k.rest_is
 
   there : get_or (past_comments (codes v)) 0 0 ≡ 0 → ⊥
   there y = z (sym (first_shown s1 _ w k.rest_is seen) ∙ y)
 
-  reads : Reads c0 sl (found_from (past_comments (codes v))) c1 read s2
+  reads : Reads c0 sl here c1 read s2
   reads = subst (λ x. Reads c0 sl (found_from x) c1 read s2) codes_are a
 
   start_is : s1 ≡ past (before (codes v)) v
@@ -148,63 +132,79 @@ module _ (v s1 sl : Ahead) (c0 c1 : List ℕ) (s2 : Ahead) (w : Peek) (read : Re
 
   left_is : s2 ≡ past (before (codes v) + taken (codes v)) v
   left_is =
-      let rest = length (found_from (past_comments (codes v))).rest in
+      let rest = length here.rest in
       left_exactly reads.all_is.left
       ∙ (λ i. past (length (codes_are i) - rest) ((l ∙ start_is) i))
       ∙ past_past _ (before (codes v)) v
       ∙ ap (λ n. past (before (codes v) + n) v) (sym (taken_found (codes v) there))
 
   place_is : w.place ≡ place_of v
-  place_is = ap (λ (t : Peek). t.place) seen ∙ ap (λ (x : Ahead). (get_or {A = Placed} x.list 0 (0, 0)).1) start_is ∙ ap (λ (p : Placed). p.1) (first_of_drop v.list (before (codes v)))
+  place_is = ap (λ (t : Peek). t.place) seen ∙ ap (λ (x : Ahead). (get_or {A = Placed} x.list 0 (0, 0)).1) start_is ∙ ap (λ (p : Placed). p.1) (get_or-drop (before (codes v)) v.list 0 (0, 0) ∙ ap (λ n. get_or v.list n (0, 0)) (add-zero (before (codes v))))
 
-  outgrown_so : read.all.outgrown ≡ ltb (length c0) (length (collected (codes v)))
-  outgrown_so =
-      let t = (found_from (past_comments (codes v))).text ++ (found_from (past_comments (codes v))).unit in
-      ap (λ (f : Fill). f.outgrown) reads.all_is.fill ∙ filled_outgrown (length c0) empty t (omega arith) ∙ ap (ltb (length c0)) (zero-add (length t)) ∙ ap (λ x. ltb (length c0) (length x)) (sym (collected_found (codes v) there))
+  length_is : length (collected (codes v)) ≡ length here.text + length here.unit
+  length_is = ap length (collected_found (codes v) there) ∙ length-append here.text here.unit
+
+  text_so : length (collected (codes v)) ≤ length c0 → read.text ≡ Some (length here.text)
+  text_so h =
+      let n = length_is in
+      reads.text_is ∙ filled_words (length c0) here.text ∙ cond-false _ _ _ (le-ltb (length c0) (length here.text) (omega arith))
+
+  all_so : read.all ≡ cond (ltb (length c0) (length (collected (codes v)))) None (Some (length (collected (codes v))))
+  all_so = reads.all_is.fill ∙ filled_words (length c0) _ ∙ ap (λ x. cond (ltb (length c0) (length x)) None (Some (length x))) (sym (collected_found (codes v) there))
 
   -- whatever the answer is, the cells and what is left
-  answers : (r : Result Next Fault) (s3 : Ahead) → r ≡ answered (length c0) v (token (token_of (found_from (past_comments (codes v)))) (found_from (past_comments (codes v))).rest) → s3 ≡ s2 → Answers v c0 r c1 s3
+  answers : (r : Result Next Fault) (s3 : Ahead) → r ≡ answered (length c0) v (token (token_of here) here.rest) → s3 ≡ s2 → Answers v c0 r c1 s3
   answers r s3 e m = record {
     answer = e ∙ ap (answered (length c0) v) (sym (next_found (codes v) there));
     cells = reads.all_is.cells ∙ laid_words c0 _ ∙ ap (overwritten c0) (sym (collected_found (codes v) there));
     left = m ∙ left_is;
   }
 
-  pub outgrown_answers : (s3 : Ahead) → s3 ≡ s2 → read.all.outgrown ≡ true → Answers v c0 (Err (Outgrown w.place)) c1 s3
-  unfolding answered
-  outgrown_answers s3 m h = answers _ s3 (ap (λ p. Err (Outgrown p)) place_is ∙ sym (cond-true _ _ _ (sym outgrown_so ∙ h))) m
+  module _ (g : Result Located Fault)
+      (fits : (n m : ℕ) → read.text ≡ Some n → read.all ≡ Some m → g ≡ Ok (record { kind = read.kind; mark = read.mark; text = cond (is_bad_kind read.kind) 0 n; unit = m - n; place = w.place }))
+      (outgrown : read.all ≡ None → g ≡ Err (Outgrown w.place)) where
+    given : Located
+    given = located (place_of v) (token_of here)
 
-  module _ (s3 : Ahead) (u : Peek) (t : Located) (m : s3 ≡ s2) (seen2 : u ≡ peeked s2.list) (at : EndsAtZero u s2.list) (fits : read.all.outgrown ≡ false)
-      (e : t ≡ record { kind = read.kind; mark = read.mark; text = cond (is_bad_kind read.kind) 0 read.text.len; unit = read.all.len - read.text.len; place = w.place }) where
-    fits_so : ltb (length c0) (length (collected (codes v))) ≡ false
-    fits_so = sym outgrown_so ∙ fits
+    located_so : g ≡ cond (ltb (length c0) (length (collected (codes v)))) (Err (Outgrown (place_of v))) (Ok given)
+    unfolding given token_of
+    located_so = by (ltb (length c0) (length (collected (codes v)))) refl
+      where
+        by : (b : Bool) → ltb (length c0) (length (collected (codes v))) ≡ b → g ≡ cond b (Err (Outgrown (place_of v))) (Ok given)
+        by true h = outgrown (all_so ∙ cond-true _ _ _ h) ∙ ap (λ p. Err (Outgrown p)) place_is
+        by false h =
+            let n = length_is in
+            let unit : length (collected (codes v)) - length here.text ≡ length here.unit = omega arith in
+            let text : cond (is_bad_kind read.kind) 0 (length here.text) ≡ length (cond (is_bad_kind here.kind) [] here.text) = ap (λ x. cond (is_bad_kind x) 0 (length here.text)) reads.kind_is ∙ given_length (is_bad_kind here.kind) here.text in
+            fits _ _ (text_so (ltb-false _ _ h)) (all_so ∙ cond-false _ _ _ h)
+            ∙ (λ i. Ok (record { kind = reads.kind_is i; mark = reads.mark_is i; text = text i; unit = unit i; place = place_is i }))
 
-    token_is : ◌≡◌ {A = Result Next Fault} (Ok (Token t)) (Ok (Token (located (place_of v) (token_of (found_from (past_comments (codes v)))))))
-    token_is =
-        let le = ltb-false _ _ (ap (λ x. ltb (length c0) (length x)) (sym (collected_found (codes v) there)) ∙ fits_so) in
-        ap (λ x. Ok (Token x)) (e ∙ located_found (length c0) w.place (found_from (past_comments (codes v))) read reads.kind_is reads.mark_is reads.text_is reads.all_is.fill le ∙ ap (λ p. located p (token_of (found_from (past_comments (codes v))))) place_is)
-
-    rest_long : length (found_from (past_comments (codes v))).rest ≡ length s2.list
-    rest_long = ap length (sym reads.all_is.left.rest_is) ∙ length_codes s2.list
-
-    pub far_answers : (u.third ≡ 0 → ⊥) → Answers v c0 (Ok (Token t)) c1 s3
+    pub outgrown_answers : (e : Fault) → g ≡ Err e → Answers v c0 (Err e) c1 s2
     unfolding answered
-    far_answers n =
-        let three : 3 ≤ length (found_from (past_comments (codes v))).rest = rw rest_long (three_left s2.list u seen2 n) in
-        answers _ s3 (token_is ∙ sym (cond-false _ _ _ fits_so ∙ cond-false _ _ _ (le-ltb _ 3 three))) m
+    outgrown_answers e h = answers _ s2 (by (ltb (length c0) (length (collected (codes v)))) _ (sym h ∙ located_so)) refl
+      where
+        by : (b : Bool) (r : Result Next Fault) → ◌≡◌ {A = Result Located Fault} (Err e) (cond b (Err (Outgrown (place_of v))) (Ok given)) → ◌≡◌ {A = Result Next Fault} (Err e) (cond b (Err (Outgrown (place_of v))) r)
+        by true r k = let z : e ≡ Outgrown (place_of v) = cc k in ap Err z
+        by false r k = absurd (cc k)
 
-    ending_is : s3.ending ≡ v.ending
-    ending_is = ap (λ x. x.ending) (m ∙ left_is)
+    module _ (t : Located) (is : g ≡ Ok t) (s3 : Ahead) (m : s3 ≡ s2) (o : Option (Result ℕ Fault)) (told : o ≡ ending_in_sight s2) where
+      given_so : (ltb (length c0) (length (collected (codes v))) ≡ false) × (t ≡ given)
+      given_so = by (ltb (length c0) (length (collected (codes v)))) (sym is ∙ located_so)
+        where
+          by : (b : Bool) → ◌≡◌ {A = Result Located Fault} (Ok t) (cond b (Err (Outgrown (place_of v))) (Ok given)) → (b ≡ false) × (t ≡ given)
+          by true k = absurd (cc k)
+          by false k = (refl, cc k)
 
-    near : u.third ≡ 0 → ltb (length (found_from (past_comments (codes v))).rest) 3 ≡ true
-    near n = let few : length (found_from (past_comments (codes v))).rest < 3 = (let q = rest_long in let p = at.two n in omega arith) in lt-ltb _ 3 few
+      rest_long : length here.rest ≡ length s2.list
+      rest_long = ap length (sym reads.all_is.left.rest_is) ∙ length_codes s2.list
 
-    pub near_end_answers : (s4 : Ahead) (p : ℕ) → u.third ≡ 0 → s4 ≡ s3 → Ok p ≡ ended s3.ending → Answers v c0 (Ok (Token t)) c1 s4
-    unfolding answered
-    near_end_answers s4 p n q h =
-        answers _ s4 (not_stopped p v.ending (Ok (Token t)) (h ∙ ap ended ending_is) ∙ ap (unless_stopped v.ending) token_is ∙ sym (cond-false _ _ _ fits_so ∙ cond-true _ _ _ (near n))) (q ∙ m)
+      -- the token, unless the source's fault is in sight
+      in_sight_so : unless_in_sight s2 (Ok (Token t)) ≡ answered (length c0) v (token (token_of here) here.rest)
+      unfolding answered unless_in_sight given
+      in_sight_so = (λ i. cond (ltb (sym rest_long i) 3) (unless_stopped (left_is i).ending (Ok (Token (given_so.1 i)))) (Ok (Token (given_so.1 i)))) ∙ sym (cond-false _ _ _ given_so.0)
 
-    pub near_fault_answers : (s4 : Ahead) (f : Fault) → u.third ≡ 0 → s4 ≡ s3 → Err f ≡ ended s3.ending → Answers v c0 (Err f) c1 s4
-    unfolding answered
-    near_fault_answers s4 f n q h =
-        answers _ s4 (stopped f v.ending _ (h ∙ ap ended ending_is) ∙ sym (cond-false _ _ _ fits_so ∙ cond-true _ _ _ (near n))) (q ∙ m)
+      pub fault_answers : (f : Fault) → Err f ≡ option_transpose o → Answers v c0 (Err f) c1 s3
+      fault_answers f h = answers _ s3 (stopped s2 (Ok (Token t)) f (h ∙ ap option_transpose told) ∙ in_sight_so) m
+
+      pub token_answers : (x : Option ℕ) → Ok x ≡ option_transpose o → Answers v c0 (Ok (Token t)) c1 s3
+      token_answers x h = answers _ s3 (not_stopped s2 (Ok (Token t)) x (h ∙ ap option_transpose told) ∙ in_sight_so) m

@@ -9,9 +9,9 @@ use Rattle.syntax.specs.Points.{less_than}
 use Rattle.syntax.specs.Bodies.{is_quote, past_whitespace}
 use Rattle.syntax.specs.Reading.{Branch, Found, branch, found, found_at, found_bare, found_by, ident_comes, ident_like_at, numeric_at, sign_at, sign_kind, string_at}
 use Rattle.syntax.specs.Reading.Branch.{whitespace, quote, hash, at, number, cdc, cdo, name, sign}
-use Rattle.scan.specs.declared.lookahead.Peek.{Peek}
-use Rattle.scan.specs.Ahead.{Ahead, Left, codes, past, peeked}
-use Rattle.scan.proofs.States.{codes_past, left_all, left_past, left_said, left_then, past_one}
+use Rattle.lookahead.specs.declared.ahead.Peek.{Peek}
+use Rattle.lookahead.specs.Ahead.{Ahead, Left, codes, past, peeked}
+use Rattle.scan.proofs.States.{codes_past, left_all, left_past, left_said, left_then}
 use Rattle.scan.proofs.Arms.{first_is, second_is, third_is}
 use Rattle.reader.specs.declared.read.Read.{Read}
 use Rattle.reader.specs.Reads.{Reads, at_found, bare_read, found_from, hash_found, is_comment_closing, is_comment_opening, less_found, opens_hash, sign_read}
@@ -106,13 +106,10 @@ module _ (s sl : Ahead) (w : Peek) (l : sl ≡ s) (seen : w ≡ peeked s.list) w
   opening_is b h = ap (λ x. cond x (found_bare Cdo (drop 3 (codes s))) (found Delim less_than [] (codes s))) (sym (ap (λ (t : Peek). is_comment_opening t.first t.second t.third) seen) ∙ h)
 
   pub less_cdo : (r : Read) (s1 : Ahead) → is_comment_opening w.first w.second w.third ≡ true → s1 ≡ past 3 sl → r ≡ bare_read Cdo 0 → (c0 : List ℕ) → Reads c0 s (less_found (codes s)) c0 r s1
-  less_cdo r s1 h e q c0 = said (opening_is true h) (subst (λ x. Reads c0 s (found_bare Cdo (drop 3 (codes s))) c0 x s1) (sym q) (bare_reads c0 Cdo 0 s s1 (drop 3 (codes s)) (left_past 3 s s1 (e ∙ ap (past 3) l))))
+  less_cdo r s1 h e q c0 = said (opening_is true h) (bare_reads Cdo 0 (left_past 3 s s1 (e ∙ ap (past 3) l)) r q)
 
   pub less_sign : (r : Read) → is_comment_opening w.first w.second w.third ≡ false → r ≡ bare_read Delim less_than → (c0 : List ℕ) → Reads c0 s (less_found (codes s)) c0 r sl
-  less_sign r h q c0 = said (opening_is false h) (subst (λ x. Reads c0 s (found Delim less_than [] (codes s)) c0 x sl) (sym q) (bare_reads c0 Delim less_than s sl (codes s) (left_all s sl l)))
-
-pub three_past : (s s1 s2 s3 : Ahead) → s1 ≡ past 1 s → s2 ≡ past 1 s1 → s3 ≡ past 1 s2 → s3 ≡ past 3 s
-three_past s s1 s2 s3 e1 e2 e3 = e3 ∙ ap (past 1) (e2 ∙ ap (past 1) e1) ∙ past_one 1 (past 1 s) ∙ past_one 2 s
+  less_sign r h q c0 = said (opening_is false h) (bare_reads Delim less_than (left_all s sl l) r q)
 
 -- the whole, by what is seen
 module _ (s sl : Ahead) (w : Peek) (l : sl ≡ s) (seen : w ≡ peeked s.list) where
@@ -131,8 +128,7 @@ module _ (s sl : Ahead) (w : Peek) (l : sl ≡ s) (seen : w ≡ peeked s.list) w
   pub token_whitespace : (c0 : List ℕ) (r : Read) (s1 s2 : Ahead) → is_whitespace w.first ≡ true → s1 ≡ past 1 sl → Left s1 (past_whitespace (codes s1)) s2 → r ≡ bare_read Whitespace 0 → Reads c0 s (found_from (codes s)) c0 r s2
   unfolding found_by
   token_whitespace c0 r s1 s2 h e k q =
-      let rest = drop 1 (codes s) in
-      said (found_by_lem whitespace (branch_whitespace _ _ _ _ h)) (subst (λ x. Reads c0 s (found_bare Whitespace (past_whitespace rest)) c0 x s2) (sym q) (bare_reads c0 Whitespace 0 s s2 (past_whitespace rest) (left_said (ap past_whitespace (behind_first s1 e)) (left_then (left_past 1 s s1 (e ∙ ap (past 1) l)) k))))
+      said (found_by_lem whitespace (branch_whitespace _ _ _ _ h)) (bare_reads Whitespace 0 (left_said (ap past_whitespace (behind_first s1 e)) (left_then (left_past 1 s s1 (e ∙ ap (past 1) l)) k)) r q)
 
   pub token_quote : (c0 c1 : List ℕ) (r : Read) (s1 s2 : Ahead) → is_whitespace w.first ≡ false → is_quote w.first ≡ true → s1 ≡ past 1 sl → Reads c0 s1 (string_at w.first (codes s1)) c1 r s2 → Reads c0 s (found_from (codes s)) c1 r s2
   unfolding found_by
@@ -157,8 +153,7 @@ module _ (s sl : Ahead) (w : Peek) (l : sl ≡ s) (seen : w ≡ peeked s.list) w
   pub token_cdc : (c0 : List ℕ) (r : Read) (s1 : Ahead) → is_whitespace w.first ≡ false → is_quote w.first ≡ false → opens_hash w.first w.second w.third ≡ false → (w.first ≡ 64 → ⊥) → starts_number w.first w.second w.third ≡ false → is_comment_closing w.first w.second w.third ≡ true → s1 ≡ past 3 sl → r ≡ bare_read Cdc 0 → Reads c0 s (found_from (codes s)) c0 r s1
   unfolding found_by
   token_cdc c0 r s1 nw nq nh na nn h e q =
-      let rest = drop 2 (drop 1 (codes s)) in
-      said (found_by_lem cdc (branch_cdc _ _ _ _ nw nq nh na nn h)) (subst (λ x. Reads c0 s (found_bare Cdc rest) c0 x s1) (sym q) (bare_reads c0 Cdc 0 s s1 rest (left_said (three (codes s)) (left_past 3 s s1 (e ∙ ap (past 3) l)))))
+      said (found_by_lem cdc (branch_cdc _ _ _ _ nw nq nh na nn h)) (bare_reads Cdc 0 (left_said (three (codes s)) (left_past 3 s s1 (e ∙ ap (past 3) l))) r q)
     where
       three : (t : List ℕ) → drop 3 t ≡ drop 2 (drop 1 t)
       three [] = refl
@@ -175,8 +170,8 @@ module _ (s sl : Ahead) (w : Peek) (l : sl ≡ s) (seen : w ≡ peeked s.list) w
   token_sign c0 r s1 nw nq nh na nn nc nl h e q =
       let rest = drop 1 (codes s) in
       said (found_by_lem sign (branch_sign _ _ _ _ nw nq nh na nn nc nl h) ∙ ap (λ x. sign_at x rest) (sym (first_is s.list w seen)))
-      (subst (λ x. Reads c0 s (sign_at w.first rest) c0 x s1) (sym q) (by (same_kind (sign_kind w.first) Delim)))
+      (by (same_kind (sign_kind w.first) Delim) q)
     where
-      by : (b : Bool) → Reads c0 s (elim b [ true ↦ found Delim w.first [] (drop 1 (codes s)) | false ↦ found_bare (sign_kind w.first) (drop 1 (codes s)) ]) c0 (cond b (bare_read Delim w.first) (bare_read (sign_kind w.first) 0)) s1
-      by true = bare_reads c0 Delim w.first s s1 (drop 1 (codes s)) (left_past 1 s s1 (e ∙ ap (past 1) l))
-      by false = bare_reads c0 (sign_kind w.first) 0 s s1 (drop 1 (codes s)) (left_past 1 s s1 (e ∙ ap (past 1) l))
+      by : (b : Bool) → r ≡ cond b (bare_read Delim w.first) (bare_read (sign_kind w.first) 0) → Reads c0 s (elim b [ true ↦ found Delim w.first [] (drop 1 (codes s)) | false ↦ found_bare (sign_kind w.first) (drop 1 (codes s)) ]) c0 r s1
+      by true k = bare_reads Delim w.first (left_past 1 s s1 (e ∙ ap (past 1) l)) r k
+      by false k = bare_reads (sign_kind w.first) 0 (left_past 1 s s1 (e ∙ ap (past 1) l)) r k

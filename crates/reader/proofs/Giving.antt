@@ -1,5 +1,5 @@
 -- A reading gives the tokens.
-use Rattle.std.proofs.Common.{◌≡◌, ℕ, ◌+◌, ◌≤◌, Bool, true, false, cond, ltb, ◌⊎◌, List, [], ◌∷◌, ◌++◌, length, take, drop, Ok, Err, Result, sym, refl, ap, ◌∙◌, subst, inl, inr, append_assoc, arith, take_all}
+use Rattle.std.proofs.Common.{◌≡◌, ℕ, ◌+◌, ◌≤◌, Bool, true, false, cond, ltb, ◌⊎◌, List, [], ◌∷◌, ◌++◌, length, take, drop, Some, None, Ok, Err, Result, sym, refl, ap, ◌∙◌, subst, inl, inr, append_assoc, arith, take_all}
 use lib.Seq.{take-append_seam, drop-append_seam}
 use Rattle.std.proofs.lemmas.Bool.{cond-false, le-ltb, ltb-false}
 use Rattle.codepoint.specs.Utf8.{code_points_of}
@@ -15,12 +15,11 @@ use Rattle.syntax.specs.Reading.{Found, Next as Reached, Yields, found_at, next,
 use Rattle.syntax.specs.Reading.Next.{end, token}
 use Rattle.syntax.specs.Extents.{before, taken, taken_at, collected, collected_at}
 use Rattle.syntax.proofs.Chains.{yields_once}
-use Rattle.scan.specs.Ahead.{Ahead, codes, past}
+use Rattle.lookahead.specs.Ahead.{Ahead, codes, past}
 use Rattle.scan.proofs.States.{codes_past, drop_drop}
 use Rattle.reader.specs.declared.answer.Located.{Located}
 use Rattle.reader.specs.declared.answer.Next.{Next}
 use Rattle.reader.specs.declared.answer.Next.TheVariants.{Token, End}
-use Rattle.reader.specs.declared.answer.State.TheVariants.{Going, Ended}
 use Rattle.reader.specs.NextToken.{Model, NextToken, NextTokenFrom, answered, begun, end_answer, located, overwritten, place_of, unless_stopped}
 use Rattle.reader.specs.Readings.{GivesTheTokens, Reading, value_in}
 use Rattle.reader.specs.Readings.Reading.{ended, gave}
@@ -35,12 +34,12 @@ record GivenToken (cap : ℕ) (v : Ahead) (n : Reached) (t : Located) : Type 0 w
   fits : length (collected (codes v)) ≤ cap
 
 not_ended : (e : Ending) (t : Located) → Ok (Token t) ≡ end_answer e → ⊥
-not_ended (ends p) t h = let z : ◌≡◌ {A = ℕ} 0 1 = cc h in omega arith
-not_ended (stops f) t h = let z : ◌≡◌ {A = ℕ} 0 1 = cc h in omega arith
+not_ended (ends p) t h = cc h
+not_ended (stops f) t h = cc h
 
 not_stopped : (e : Ending) (t u : Located) → Ok (Token t) ≡ unless_stopped e (Ok (Token u)) → t ≡ u
 not_stopped (ends p) t u h = cc h
-not_stopped (stops f) t u h = let z : ◌≡◌ {A = ℕ} 0 1 = cc h in absurd (omega arith)
+not_stopped (stops f) t u h = absurd (cc h)
 
 token_was_given : (cap : ℕ) (v : Ahead) (n : Reached) (t : Located) → Ok (Token t) ≡ answered cap v n → GivenToken cap v n t
 unfolding answered
@@ -50,7 +49,7 @@ token_was_given cap v (token value rest) t h = by (ltb cap (length (collected (c
     by : (b : Bool) → ltb cap (length (collected (codes v))) ≡ b → (d : Bool)
         → Ok (Token t) ≡ cond b (Err (Outgrown (place_of v))) (cond d (unless_stopped v.ending (Ok (Token (located (place_of v) value)))) (Ok (Token (located (place_of v) value))))
         → GivenToken cap v (token value rest) t
-    by true e d k = let z : ◌≡◌ {A = ℕ} 0 1 = cc k in absurd (omega arith)
+    by true e d k = absurd (cc k)
     by false e true k = record { value = value; rest = rest; reached = refl; is = not_stopped v.ending t _ k; fits = ltb-false _ _ e }
     by false e false k = record { value = value; rest = rest; reached = refl; is = cc k; fits = ltb-false _ _ e }
 
@@ -76,12 +75,12 @@ cells_hold p f x h = by (is_bad_kind f.kind) h
 module _ (value : TokenValue) (rest : List ℕ) where
   rest_cut : (p : List ℕ) → next_at p ≡ token value rest → drop (taken_at p) p ≡ rest
   unfolding next_at
-  rest_cut [] h = let z : ◌≡◌ {A = ℕ} 0 1 = cc h in absurd (omega arith)
+  rest_cut [] h = absurd (cc h)
   rest_cut (a ∷ s) h = cut_exactly (rest_is_end a s) ∙ cc h
 
   value_held : (p : List ℕ) → next_at p ≡ token value rest → (n : ℕ) (x : List ℕ) → value_in (located n value) (collected_at p ++ x) ≡ value
   unfolding next_at
-  value_held [] h n x = let z : ◌≡◌ {A = ℕ} 0 1 = cc h in absurd (omega arith)
+  value_held [] h n x = absurd (cc h)
   value_held (a ∷ s) h n x =
       let e : token_of (found_at a s) ≡ value = cc h in
       subst (λ t. value_in (located n t) (collected_at (a ∷ s) ++ x) ≡ t) e (cells_hold n (found_at a s) x (bad_has_no_unit a s))
@@ -101,18 +100,18 @@ none_was_given cap v end p h = refl
 none_was_given cap v (token value rest) p h = absurd (by (ltb cap (length (collected (codes v)))) (ltb (length rest) 3) v.ending h)
   where
     by : (b d : Bool) (e : Ending) → Ok (End p) ≡ cond b (Err (Outgrown (place_of v))) (cond d (unless_stopped e (Ok (Token (located (place_of v) value)))) (Ok (Token (located (place_of v) value)))) → ⊥
-    by true d e k = let z : ◌≡◌ {A = ℕ} 0 1 = cc k in omega arith
-    by false true (ends q) k = let z : ◌≡◌ {A = ℕ} 0 1 = cc k in omega arith
-    by false true (stops f) k = let z : ◌≡◌ {A = ℕ} 0 1 = cc k in omega arith
-    by false false e k = let z : ◌≡◌ {A = ℕ} 0 1 = cc k in omega arith
+    by true d e k = cc k
+    by false true (ends q) k = cc k
+    by false true (stops f) k = cc k
+    by false false e k = cc k
 
 -- from a reader that goes on
-going : {m : Model} {cells : List ℕ} {r : Result Next Fault} {cells' : List ℕ} {m' : Model} → m.state ≡ Going → NextToken m cells r cells' m' → NextTokenFrom Going m.ahead cells r cells' m'
+going : {m : Model} {cells : List ℕ} {r : Result Next Fault} {cells' : List ℕ} {m' : Model} → m.told ≡ None → NextToken m cells r cells' m' → NextTokenFrom None m.ahead cells r cells' m'
 going {m} {cells} {r} {cells'} {m'} e h = subst (λ s. NextTokenFrom s m.ahead cells r cells' m') e h
 
 -- a token that was given is the next one, and what is left follows it
-pub token_step : (m m' : Model) (cells cells' : List ℕ) (t : Located) → m.state ≡ Going → NextToken m cells (Ok (Token t)) cells' m'
-    → (next (codes m.ahead) ≡ token (value_in t cells') (codes m'.ahead)) × (m'.state ≡ Going) × (m'.ahead.ending ≡ m.ahead.ending)
+pub token_step : (m m' : Model) (cells cells' : List ℕ) (t : Located) → m.told ≡ None → NextToken m cells (Ok (Token t)) cells' m'
+    → (next (codes m.ahead) ≡ token (value_in t cells') (codes m'.ahead)) × (m'.told ≡ None) × (m'.ahead.ending ≡ m.ahead.ending)
 token_step m m' cells cells' t e h =
     let g = going {m = m} {m' = m'} e h in
     let a = g.0 in
@@ -123,12 +122,12 @@ token_step m m' cells cells' t e h =
     (w.reached ∙ (λ i. token (sym is i) (sym r i)), g.1, ap (λ x. x.ending) a.left)
 
 -- where the end was told, no token is left
-pub end_step : (m m' : Model) (cells cells' : List ℕ) (p : ℕ) → m.state ≡ Going → NextToken m cells (Ok (End p)) cells' m' → next (codes m.ahead) ≡ end
+pub end_step : (m m' : Model) (cells cells' : List ℕ) (p : ℕ) → m.told ≡ None → NextToken m cells (Ok (End p)) cells' m' → next (codes m.ahead) ≡ end
 end_step m m' cells cells' p e h = none_was_given (length cells) m.ahead (next (codes m.ahead)) p (going {m = m} {m' = m'} e h).0.answer
 
 -- a refusal is the source's fault, or the text outgrew the cells
 fault_was_told : (e : Ending) (f : Fault) → Err f ≡ end_answer e → e ≡ stops f
-fault_was_told (ends p) f h = let z : ◌≡◌ {A = ℕ} 0 1 = cc h in absurd (omega arith)
+fault_was_told (ends p) f h = absurd (cc h)
 fault_was_told (stops g) f h = cc h
 
 refused_as : (cap : ℕ) (v : Ahead) (n : Reached) (f : Fault) → Err f ≡ answered cap v n → (v.ending ≡ stops f) ⊎ ((p : ℕ) × (f ≡ Outgrown p))
@@ -139,14 +138,14 @@ refused_as cap v (token value rest) f h = by (ltb cap (length (collected (codes 
     by : (b d : Bool) (e : Ending) → Err f ≡ cond b (Err (Outgrown (place_of v))) (cond d (unless_stopped e (Ok (Token (located (place_of v) value)))) (Ok (Token (located (place_of v) value))))
         → (e ≡ stops f) ⊎ ((p : ℕ) × (f ≡ Outgrown p))
     by true d e k = inr (place_of v, cc k)
-    by false true (ends q) k = let z : ◌≡◌ {A = ℕ} 0 1 = cc k in absurd (omega arith)
+    by false true (ends q) k = absurd (cc k)
     by false true (stops g) k = inl (cc k)
-    by false false e k = let z : ◌≡◌ {A = ℕ} 0 1 = cc k in absurd (omega arith)
+    by false false e k = absurd (cc k)
 
-pub fault_step : (m m' : Model) (cells cells' : List ℕ) (f : Fault) → m.state ≡ Going → NextToken m cells (Err f) cells' m' → (m.ahead.ending ≡ stops f) ⊎ ((p : ℕ) × (f ≡ Outgrown p))
+pub fault_step : (m m' : Model) (cells cells' : List ℕ) (f : Fault) → m.told ≡ None → NextToken m cells (Err f) cells' m' → (m.ahead.ending ≡ stops f) ⊎ ((p : ℕ) × (f ≡ Outgrown p))
 fault_step m m' cells cells' f e h = refused_as (length cells) m.ahead (next (codes m.ahead)) f (going {m = m} {m' = m'} e h).0.answer
 
-reading_yields : (m : Model) (ts : List TokenValue) → m.state ≡ Going → Reading m ts → Yields (codes m.ahead) ts
+reading_yields : (m : Model) (ts : List TokenValue) → m.told ≡ None → Reading m ts → Yields (codes m.ahead) ts
 reading_yields m us e (ended n m' p cells cells' h) = end_step m m' cells cells' p e h
 reading_yields m us e (gave n m' t cells cells' ts h more) =
     let k = token_step m m' cells cells' t e h in (codes m'.ahead, k.0, reading_yields m' ts k.1 more)
@@ -170,9 +169,9 @@ told_at_the_end : (cap : ℕ) (v : Ahead) (p : ℕ) → v.ending ≡ ends p → 
 unfolding answered
 told_at_the_end cap v p e = ap end_answer e
 
-reading_of : (v : Ahead) (p : ℕ) (ts : List TokenValue) → v.ending ≡ ends p → Yields (codes v) ts → Reading (record { ahead = v; state = Going }) ts
+reading_of : (v : Ahead) (p : ℕ) (ts : List TokenValue) → v.ending ≡ ends p → Yields (codes v) ts → Reading (record { ahead = v; told = None }) ts
 reading_of v p [] e y =
-    ended _ (record { ahead = past (before (codes v) + taken (codes v)) v; state = Ended p }) p (collected (codes v)) (overwritten (collected (codes v)) (collected (codes v)))
+    ended _ (record { ahead = past (before (codes v) + taken (codes v)) v; told = Some (Ok p) }) p (collected (codes v)) (overwritten (collected (codes v)) (collected (codes v)))
     (record { answer = sym (ap (answered (length (collected (codes v))) v) y ∙ told_at_the_end _ v p e); cells = refl; left = refl }, refl)
 reading_of v p (t ∷ ts) e y =
     let s = codes v in
@@ -180,8 +179,8 @@ reading_of v p (t ∷ ts) e y =
     let cells = overwritten (collected s) (collected s) in
     let is : value_in (located (place_of v) t) cells ≡ t = value_stands t y.0 s y.1 (place_of v) (collected s) (omega arith) in
     let r : codes after ≡ y.0 = codes_past (before s + taken s) v ∙ rest_follows t y.0 s y.1 in
-    subst (λ x. Reading (record { ahead = v; state = Going }) (x ∷ ts)) is
-    (gave _ (record { ahead = after; state = Going }) (located (place_of v) t) (collected s) cells ts
+    subst (λ x. Reading (record { ahead = v; told = None }) (x ∷ ts)) is
+    (gave _ (record { ahead = after; told = None }) (located (place_of v) t) (collected s) cells ts
     (record { answer = sym (ap (answered (length (collected s)) v) y.1 ∙ told_where_it_fits v p t y.0 e); cells = refl; left = refl }, refl)
     (reading_of after p ts e (subst (λ x. Yields x ts) (sym r) y.2)))
 

@@ -1,24 +1,23 @@
 -- Tokens with a text.
-use Rattle.std.proofs.Common.{◌≡◌, ℕ, Bool, true, false, cond, eqb, List, [], ◌∷◌, length, get_or, drop, sym, refl, ap, ◌∙◌, subst, append-nil, arith}
+use Rattle.std.proofs.Common.{◌≡◌, ℕ, true, false, cond, eqb, ◌⊎◌, ⊎_elim, List, [], ◌∷◌, length, get_or, drop, Option, sym, refl, ap, ◌∙◌, subst, append-nil, arith}
 use Rattle.std.proofs.lemmas.Bool.{ne_eqb, eq-eqb}
 use Rattle.codepoint.specs.Starts.{starts_ident}
 use Rattle.syntax.specs.declared.kind.Kind.{Kind}
-use Rattle.syntax.specs.declared.kind.Kind.TheVariants.{AtKeyword, BadString, BadUrl, Delim, Dimension, Hash, Number, Percentage, QuotedString, Url}
+use Rattle.syntax.specs.declared.kind.Kind.TheVariants.{AtKeyword, BadString, BadUrl, Delim, Dimension, Number, Percentage, QuotedString, Url}
 use Rattle.syntax.specs.Points.{newline, percent, right_paren, commercial_at}
 use Rattle.syntax.specs.Rules.{collect, beyond}
 use Rattle.syntax.specs.Escapes.{in_ident}
 use Rattle.syntax.specs.Bodies.{in_string, in_url, in_remnants, past_whitespace}
 use Rattle.syntax.specs.Numbers.{number_at}
 use Rattle.syntax.specs.Reading.{Found, found, ident_comes, end_string, string_at, name_at, end_number, numeric_at, end_url, url_at}
-use Rattle.scan.specs.declared.fill.Fill.{Fill}
-use Rattle.scan.specs.declared.lookahead.Peek.{Peek}
-use Rattle.scan.specs.Ahead.{Ahead, EndsAtZero, Left, codes, past, peeked}
+use Rattle.lookahead.specs.declared.ahead.Peek.{Peek}
+use Rattle.lookahead.specs.Ahead.{Ahead, EndsAtZero, Left, codes, past, peeked}
 use Rattle.scan.specs.Fills.{Collects, empty, filled, laid}
 use Rattle.scan.proofs.States.{left_all, left_past, left_said, left_then}
 use Rattle.scan.proofs.Turns.{collects_then, collects_said}
 use Rattle.scan.proofs.Arms.{first_is, nothing_left}
 use Rattle.reader.specs.declared.read.Read.{Read}
-use Rattle.reader.specs.Reads.{Reads, at_found, bare_read, hash_found}
+use Rattle.reader.specs.Reads.{Reads, at_found, bare_read, texted_read}
 
 -- what is left is still left after a peek, and all but one after a bump
 pub left_stays : {w s1 : Ahead} {r : List ℕ} → Left w r s1 → (sl : Ahead) → sl ≡ s1 → Left w r sl
@@ -26,9 +25,6 @@ left_stays a sl l = record { count = a.count; passed = l ∙ a.passed; rest_is =
 
 pub left_bumps : {w s1 : Ahead} {r : List ℕ} → Left w r s1 → (sl s' : Ahead) → sl ≡ s1 → s' ≡ past 1 sl → Left w (drop 1 r) s'
 left_bumps {w} {s1} a sl s' l e = left_said (ap (drop 1) a.rest_is) (left_then a (left_past 1 s1 s' (e ∙ ap (past 1) l)))
-
-abbrev reading : Kind → ℕ → Fill → Fill → Read
-reading k m f e = record { kind = k; mark = m; text = f; all = e }
 
 -- said of an equal token
 pub said : {c0 : List ℕ} {w : Ahead} {g h : Found} {c1 : List ℕ} {r : Read} {s : Ahead} → h ≡ g → Reads c0 w g c1 r s → Reads c0 w h c1 r s
@@ -44,48 +40,21 @@ read_behind {c0} {w} {w1} k e a = record {
 }
 
 -- a token with a text and no unit
-pub textual : {c0 : List ℕ} {w : Ahead} {t r : List ℕ} {c1 : List ℕ} {f1 : Fill} {s1 : Ahead} (k : Kind) (m : ℕ) → Collects c0 empty w t r c1 f1 s1 → (rest : List ℕ) (s' : Ahead) → Left w rest s' → Reads c0 w (found k m t rest) c1 (reading k m f1 f1) s'
-textual {c0} {w} {t} k m a rest s' e = record {
+pub with_text : {c0 : List ℕ} {w : Ahead} {t r : List ℕ} {c1 : List ℕ} {f1 : Option ℕ} {s1 : Ahead} (k : Kind) (m : ℕ) → Collects c0 empty w t r c1 f1 s1 → (rest : List ℕ) (s' : Ahead) → Left w rest s' → Reads c0 w (found k m t rest) c1 (record { kind = k; mark = m; text = f1; all = f1 }) s'
+with_text {c0} {w} {t} k m a rest s' e = record {
   kind_is = refl;
   mark_is = refl;
   text_is = a.fill;
   all_is = record { cells = a.cells ∙ ap (laid c0 empty) (sym (append-nil t)); fill = a.fill ∙ ap (filled (length c0) empty) (sym (append-nil t)); left = e };
 }
 
+pub textual : {c0 : List ℕ} {w : Ahead} {t r : List ℕ} {c1 : List ℕ} {f1 : Option ℕ} {s1 : Ahead} (k : Kind) → Collects c0 empty w t r c1 f1 s1 → (rest : List ℕ) (s' : Ahead) → Left w rest s' → (d : Read) → d ≡ texted_read k f1 → Reads c0 w (found k 0 t rest) c1 d s'
+textual k a rest s' e d q = rw q (with_text k 0 a rest s' e)
+
 -- a token with neither
-pub bare_reads : (c0 : List ℕ) (k : Kind) (m : ℕ) (w s' : Ahead) (rest : List ℕ) → Left w rest s' → Reads c0 w (found k m [] rest) c0 (bare_read k m) s'
+pub bare_reads : {c0 : List ℕ} {w s' : Ahead} {rest : List ℕ} (k : Kind) (m : ℕ) → Left w rest s' → (d : Read) → d ≡ bare_read k m → Reads c0 w (found k m [] rest) c0 d s'
 unfolding laid filled
-bare_reads c0 k m w s' rest e = record { kind_is = refl; mark_is = refl; text_is = refl; all_is = record { cells = refl; fill = refl; left = e } }
-
--- how a string, a number and a url end
-module _ (t r : List ℕ) where
-  bad_string_is : eqb (get_or r 0 0) newline ≡ true → end_string t r ≡ found BadString 0 t r
-  unfolding end_string
-  bad_string_is h = rw (h, end_string)
-
-  string_is : eqb (get_or r 0 0) newline ≡ false → end_string t r ≡ found QuotedString 0 t (drop 1 r)
-  unfolding end_string
-  string_is h = rw (h, end_string)
-
-  dimension_is : ident_comes r ≡ true → end_number t r ≡ record { kind = Dimension; mark = 0; text = t; unit = collect in_ident r; rest = beyond in_ident r }
-  unfolding end_number
-  dimension_is h = rw (h, end_number)
-
-  percentage_is : ident_comes r ≡ false → eqb (get_or r 0 0) percent ≡ true → end_number t r ≡ found Percentage 0 t (drop 1 r)
-  unfolding end_number
-  percentage_is h k = rw (h, k, end_number)
-
-  number_is : ident_comes r ≡ false → eqb (get_or r 0 0) percent ≡ false → end_number t r ≡ found Number 0 t r
-  unfolding end_number
-  number_is h k = rw (h, k, end_number)
-
-  url_is : eqb (get_or r 0 right_paren) right_paren ≡ true → end_url t r ≡ found Url 0 t (drop 1 r)
-  unfolding end_url
-  url_is h = rw (h, end_url)
-
-  bad_url_is : eqb (get_or r 0 right_paren) right_paren ≡ false → end_url t r ≡ found BadUrl 0 t (drop 1 (beyond in_remnants r))
-  unfolding end_url
-  bad_url_is h = rw (h, end_url)
+bare_reads k m e d q = rw q (record { kind_is = refl; mark_is = refl; text_is = refl; all_is = record { cells = refl; fill = refl; left = e } })
 
 -- the first code point, as it is seen
 pub first_shown : (s : Ahead) (r : List ℕ) (w : Peek) → codes s ≡ r → w ≡ peeked s.list → get_or r 0 0 ≡ w.first
@@ -95,98 +64,78 @@ first_shown s r w e seen = ap (λ t. get_or t 0 0) (sym e) ∙ sym (first_is s.l
 pub ident_shown : (s : Ahead) (r : List ℕ) (w : Peek) → codes s ≡ r → w ≡ peeked s.list → ident_comes r ≡ starts_ident w.first w.second w.third
 ident_shown s r w e seen = sym (ap (λ (t : Peek). starts_ident t.first t.second t.third) seen ∙ ap ident_comes e)
 
-module _ (q : ℕ) (s : Ahead) (c0 c1 : List ℕ) (f1 : Fill) (s1 sl : Ahead) (w : Peek) (a : Collects c0 empty s (collect (in_string q) (codes s)) (beyond (in_string q) (codes s)) c1 f1 s1) (l : sl ≡ s1) (seen : w ≡ peeked s1.list) where
-  pub string_is_bad : w.first ≡ 10 → Reads c0 s (string_at q (codes s)) c1 (reading BadString 0 f1 f1) sl
-  unfolding string_at
-  string_is_bad z =
+module _ (q : ℕ) (s : Ahead) (c0 c1 : List ℕ) (f1 : Option ℕ) (s1 sl : Ahead) (w : Peek) (a : Collects c0 empty s (collect (in_string q) (codes s)) (beyond (in_string q) (codes s)) c1 f1 s1) (l : sl ≡ s1) (seen : w ≡ peeked s1.list) where
+  pub string_is_bad : w.first ≡ 10 → (d : Read) → d ≡ texted_read BadString f1 → Reads c0 s (string_at q (codes s)) c1 d sl
+  unfolding string_at end_string
+  string_is_bad z d is =
       let t : eqb (get_or (beyond (in_string q) (codes s)) 0 0) newline ≡ true = eq-eqb _ 10 (first_shown s1 _ w a.left.rest_is seen ∙ z) in
-      said (bad_string_is _ _ t) (textual BadString 0 a (beyond (in_string q) (codes s)) sl (left_stays a.left sl l))
+      rw (t, end_string) (textual BadString a (beyond (in_string q) (codes s)) sl (left_stays a.left sl l) d is)
 
-  pub string_ends : (s' : Ahead) → (w.first ≡ 10 → ⊥) → s' ≡ past 1 sl → Reads c0 s (string_at q (codes s)) c1 (reading QuotedString 0 f1 f1) s'
-  unfolding string_at
-  string_ends s' z e =
+  pub string_ends : (s' : Ahead) → (w.first ≡ 10 → ⊥) → s' ≡ past 1 sl → (d : Read) → d ≡ texted_read QuotedString f1 → Reads c0 s (string_at q (codes s)) c1 d s'
+  unfolding string_at end_string
+  string_ends s' z e d is =
       let t : eqb (get_or (beyond (in_string q) (codes s)) 0 0) newline ≡ false = ne_eqb _ 10 (λ y. z (sym (first_shown s1 _ w a.left.rest_is seen) ∙ y)) in
-      said (string_is _ _ t) (textual QuotedString 0 a (drop 1 (beyond (in_string q) (codes s))) s' (left_bumps a.left sl s' l e))
+      rw (t, end_string) (textual QuotedString a (drop 1 (beyond (in_string q) (codes s))) s' (left_bumps a.left sl s' l e) d is)
 
-pub name_reads : (k : Kind) (m : ℕ) (s : Ahead) (c0 c1 : List ℕ) (f1 : Fill) (s1 : Ahead) → Collects c0 empty s (collect in_ident (codes s)) (beyond in_ident (codes s)) c1 f1 s1 → Reads c0 s (name_at k m (codes s)) c1 (reading k m f1 f1) s1
-name_reads k m s c0 c1 f1 s1 a = textual k m a (beyond in_ident (codes s)) s1 a.left
-
--- behind `#` and `@`
-module _ (s sl : Ahead) (w : Peek) (l : sl ≡ s) (seen : w ≡ peeked s.list) where
-  named : {c0 c1 : List ℕ} {r : Read} {s1 : Ahead} (k : Kind) (m : ℕ) → Reads c0 sl (name_at k m (codes sl)) c1 r s1 → Reads c0 s (name_at k m (codes s)) c1 r s1
-  named {c0} {c1} {r} {s1} k m a = subst (λ x. Reads c0 x (name_at k m (codes x)) c1 r s1) l a
-
-  pub hash_named : (c0 c1 : List ℕ) (r : Read) (s1 : Ahead) → starts_ident w.first w.second w.third ≡ true → Reads c0 sl (name_at Hash 1 (codes sl)) c1 r s1 → Reads c0 s (hash_found (codes s)) c1 r s1
-  hash_named c0 c1 r s1 h a = said (ap (λ b. name_at Hash (cond b 1 0) (codes s)) (ident_shown s _ w refl seen ∙ h)) (named Hash 1 a)
-
-  pub hash_loose : (c0 c1 : List ℕ) (r : Read) (s1 : Ahead) → starts_ident w.first w.second w.third ≡ false → Reads c0 sl (name_at Hash 0 (codes sl)) c1 r s1 → Reads c0 s (hash_found (codes s)) c1 r s1
-  hash_loose c0 c1 r s1 h a = said (ap (λ b. name_at Hash (cond b 1 0) (codes s)) (ident_shown s _ w refl seen ∙ h)) (named Hash 0 a)
-
-  at_is : (b : Bool) → starts_ident w.first w.second w.third ≡ b → at_found (codes s) ≡ cond b (name_at AtKeyword 0 (codes s)) (found Delim commercial_at [] (codes s))
-  at_is b h = ap (λ x. cond x (name_at AtKeyword 0 (codes s)) (found Delim commercial_at [] (codes s))) (ident_shown s _ w refl seen ∙ h)
-
-  pub at_keyword : (c0 c1 : List ℕ) (r : Read) (s1 : Ahead) → starts_ident w.first w.second w.third ≡ true → Reads c0 sl (name_at AtKeyword 0 (codes sl)) c1 r s1 → Reads c0 s (at_found (codes s)) c1 r s1
-  at_keyword c0 c1 r s1 h a = said (at_is true h) (named AtKeyword 0 a)
-
-  pub at_sign : (c0 : List ℕ) (r : Read) → starts_ident w.first w.second w.third ≡ false → r ≡ bare_read Delim commercial_at → Reads c0 s (at_found (codes s)) c0 r sl
-  at_sign c0 r h e = said (at_is false h) (subst (λ x. Reads c0 s (found Delim commercial_at [] (codes s)) c0 x sl) (sym e) (bare_reads c0 Delim commercial_at s sl (codes s) (left_all s sl l)))
+-- behind `@`, where no identifier comes
+pub at_sign : (s sl : Ahead) (w : Peek) → sl ≡ s → w ≡ peeked s.list → (c0 : List ℕ) (r : Read) → starts_ident w.first w.second w.third ≡ false → r ≡ bare_read Delim commercial_at → Reads c0 s (at_found (codes s)) c0 r sl
+at_sign s sl w l seen c0 r h e =
+    said (ap (λ b. cond b (name_at AtKeyword 0 (codes s)) (found Delim commercial_at [] (codes s))) (ident_shown s _ w refl seen ∙ h))
+    (bare_reads Delim commercial_at (left_all s sl l) r e)
 
 -- numbers
-module _ (s : Ahead) (c0 c1 : List ℕ) (f1 : Fill) (s1 sl : Ahead) (w : Peek) (a : Collects c0 empty s (number_at (codes s)).0 (number_at (codes s)).1 c1 f1 s1) (l : sl ≡ s1) (seen : w ≡ peeked s1.list) where
-  pub dimension : (c2 : List ℕ) (f2 : Fill) (s2 : Ahead) → starts_ident w.first w.second w.third ≡ true → Collects c1 f1 sl (collect in_ident (codes sl)) (beyond in_ident (codes sl)) c2 f2 s2 → Reads c0 s (numeric_at (codes s)) c2 (reading Dimension 0 f1 f2) s2
-  unfolding numeric_at
+module _ (s : Ahead) (c0 c1 : List ℕ) (f1 : Option ℕ) (s1 sl : Ahead) (w : Peek) (a : Collects c0 empty s (number_at (codes s)).0 (number_at (codes s)).1 c1 f1 s1) (l : sl ≡ s1) (seen : w ≡ peeked s1.list) where
+  pub dimension : (c2 : List ℕ) (f2 : Option ℕ) (s2 : Ahead) → starts_ident w.first w.second w.third ≡ true → Collects c1 f1 sl (collect in_ident (codes sl)) (beyond in_ident (codes sl)) c2 f2 s2 → Reads c0 s (numeric_at (codes s)) c2 (record { kind = Dimension; mark = 0; text = f1; all = f2 }) s2
+  unfolding numeric_at end_number
   dimension c2 f2 s2 h b =
       let t = ident_shown s1 _ w a.left.rest_is seen ∙ h in
       let e : codes sl ≡ (number_at (codes s)).1 = ap codes l ∙ a.left.rest_is in
-      said (dimension_is _ _ t) (record {
+      rw (t, end_number) (record {
         kind_is = refl;
         mark_is = refl;
         text_is = a.fill;
         all_is = collects_then a (collects_said l (ap (collect in_ident) e) (ap (beyond in_ident) e) b);
       })
 
-  pub percentage : (s2 : Ahead) → starts_ident w.first w.second w.third ≡ false → w.first ≡ 37 → s2 ≡ past 1 sl → Reads c0 s (numeric_at (codes s)) c1 (reading Percentage 0 f1 f1) s2
-  unfolding numeric_at
-  percentage s2 h z e =
+  pub percentage : (s2 : Ahead) → starts_ident w.first w.second w.third ≡ false → w.first ≡ 37 → s2 ≡ past 1 sl → (d : Read) → d ≡ texted_read Percentage f1 → Reads c0 s (numeric_at (codes s)) c1 d s2
+  unfolding numeric_at end_number
+  percentage s2 h z e d is =
       let t = ident_shown s1 _ w a.left.rest_is seen ∙ h in
       let u : eqb (get_or (number_at (codes s)).1 0 0) percent ≡ true = eq-eqb _ 37 (first_shown s1 _ w a.left.rest_is seen ∙ z) in
-      said (percentage_is _ _ t u) (textual Percentage 0 a (drop 1 (number_at (codes s)).1) s2 (left_bumps a.left sl s2 l e))
+      rw (t, u, end_number) (textual Percentage a (drop 1 (number_at (codes s)).1) s2 (left_bumps a.left sl s2 l e) d is)
 
-  pub plain_number : starts_ident w.first w.second w.third ≡ false → (w.first ≡ 37 → ⊥) → Reads c0 s (numeric_at (codes s)) c1 (reading Number 0 f1 f1) sl
-  unfolding numeric_at
-  plain_number h z =
+  pub plain_number : starts_ident w.first w.second w.third ≡ false → (w.first ≡ 37 → ⊥) → (d : Read) → d ≡ texted_read Number f1 → Reads c0 s (numeric_at (codes s)) c1 d sl
+  unfolding numeric_at end_number
+  plain_number h z d is =
       let t = ident_shown s1 _ w a.left.rest_is seen ∙ h in
       let u : eqb (get_or (number_at (codes s)).1 0 0) percent ≡ false = ne_eqb _ 37 (λ y. z (sym (first_shown s1 _ w a.left.rest_is seen) ∙ y)) in
-      said (number_is _ _ t u) (textual Number 0 a (number_at (codes s)).1 sl (left_stays a.left sl l))
+      rw (t, u, end_number) (textual Number a (number_at (codes s)).1 sl (left_stays a.left sl l) d is)
 
 -- urls
 first_or : (t : List ℕ) (d : ℕ) → (get_or t 0 0 ≡ 0 → ⊥) → get_or t 0 d ≡ get_or t 0 0
 first_or [] d h = absurd (h refl)
 first_or (c ∷ t) d h = refl
 
-module _ (s : Ahead) (c0 c1 : List ℕ) (f1 : Fill) (s1 s2 sl : Ahead) (w : Peek) (a : Collects c0 empty s (collect in_url (codes s)) (beyond in_url (codes s)) c1 f1 s1) (k : Left s1 (past_whitespace (codes s1)) s2) (l : sl ≡ s2) (seen : w ≡ peeked s2.list) (ends : EndsAtZero w s2.list) where
+module _ (s : Ahead) (c0 c1 : List ℕ) (f1 : Option ℕ) (s1 s2 sl : Ahead) (w : Peek) (a : Collects c0 empty s (collect in_url (codes s)) (beyond in_url (codes s)) c1 f1 s1) (k : Left s1 (past_whitespace (codes s1)) s2) (l : sl ≡ s2) (seen : w ≡ peeked s2.list) (ends : EndsAtZero w s2.list) where
   behind_whitespace : Left s (past_whitespace (beyond in_url (codes s))) s2
   behind_whitespace = left_said (ap past_whitespace a.left.rest_is) (left_then a.left k)
 
   first_is_seen : (w.first ≡ 0 → ⊥) → get_or (past_whitespace (beyond in_url (codes s))) 0 right_paren ≡ w.first
   first_is_seen z = let e = first_shown s2 _ w behind_whitespace.rest_is seen in first_or (past_whitespace (beyond in_url (codes s))) 41 (λ y. z (sym e ∙ y)) ∙ e
 
-  pub url_ended : w.first ≡ 0 → Reads c0 s (url_at (codes s)) c1 (reading Url 0 f1 f1) sl
-  unfolding url_at
-  url_ended z =
-      let n : past_whitespace (beyond in_url (codes s)) ≡ [] = sym behind_whitespace.rest_is ∙ nothing_left s2.list w seen ends z in
-      let t : eqb (get_or (past_whitespace (beyond in_url (codes s))) 0 right_paren) right_paren ≡ true = ap (λ x. eqb (get_or x 0 41) 41) n in
-      said (url_is _ _ t) (textual Url 0 a (drop 1 (past_whitespace (beyond in_url (codes s)))) sl (left_said (n ∙ ap (drop 1) (sym n)) (left_stays behind_whitespace sl l)))
+  -- the end closes a url as `)` does
+  pub url_closed : (s3 : Ahead) → (w.first ≡ 41) ⊎ ((w.first ≡ 41 → ⊥) × (w.first ≡ 0)) → s3 ≡ past 1 sl → (d : Read) → d ≡ texted_read Url f1 → Reads c0 s (url_at (codes s)) c1 d s3
+  unfolding url_at end_url
+  url_closed s3 z e d is =
+      let r = past_whitespace (beyond in_url (codes s)) in
+      let t : eqb (get_or r 0 right_paren) right_paren ≡ true =
+      ⊎_elim (λ y. eq-eqb _ 41 (first_is_seen (λ o. let n : ◌≡◌ {A = ℕ} 41 0 = sym y ∙ o in absurd (omega arith)) ∙ y))
+      (λ y. ap (λ x. eqb (get_or x 0 41) 41) (sym behind_whitespace.rest_is ∙ nothing_left s2.list w seen ends y.1)) z in
+      rw (t, end_url) (textual Url a (drop 1 r) s3 (left_bumps behind_whitespace sl s3 l e) d is)
 
-  pub url_closed : (s3 : Ahead) → w.first ≡ 41 → s3 ≡ past 1 sl → Reads c0 s (url_at (codes s)) c1 (reading Url 0 f1 f1) s3
-  unfolding url_at
-  url_closed s3 z e =
-      let t : eqb (get_or (past_whitespace (beyond in_url (codes s))) 0 right_paren) right_paren ≡ true = eq-eqb _ 41 (first_is_seen (λ y. let n : ◌≡◌ {A = ℕ} 41 0 = sym z ∙ y in absurd (omega arith)) ∙ z) in
-      said (url_is _ _ t) (textual Url 0 a (drop 1 (past_whitespace (beyond in_url (codes s)))) s3 (left_bumps behind_whitespace sl s3 l e))
-
-  pub url_is_bad : (s3 s4 : Ahead) → (w.first ≡ 0 → ⊥) → (w.first ≡ 41 → ⊥) → Left sl (beyond in_remnants (codes sl)) s3 → s4 ≡ past 1 s3 → Reads c0 s (url_at (codes s)) c1 (reading BadUrl 0 f1 f1) s4
-  unfolding url_at
-  url_is_bad s3 s4 z n m e =
+  pub url_is_bad : (s3 s4 : Ahead) → (w.first ≡ 0 → ⊥) → (w.first ≡ 41 → ⊥) → Left sl (beyond in_remnants (codes sl)) s3 → s4 ≡ past 1 s3 → (d : Read) → d ≡ texted_read BadUrl f1 → Reads c0 s (url_at (codes s)) c1 d s4
+  unfolding url_at end_url
+  url_is_bad s3 s4 z n m e d is =
       let t : eqb (get_or (past_whitespace (beyond in_url (codes s))) 0 right_paren) right_paren ≡ false = ne_eqb _ 41 (λ y. n (sym (first_is_seen z) ∙ y)) in
       let stays = left_stays behind_whitespace sl l in
-      said (bad_url_is _ _ t) (textual BadUrl 0 a (drop 1 (beyond in_remnants (past_whitespace (beyond in_url (codes s))))) s4 (left_bumps (left_said (ap (beyond in_remnants) stays.rest_is) (left_then stays m)) s3 s4 refl e))
+      rw (t, end_url) (textual BadUrl a (drop 1 (beyond in_remnants (past_whitespace (beyond in_url (codes s))))) s4 (left_bumps (left_said (ap (beyond in_remnants) stays.rest_is) (left_then stays m)) s3 s4 refl e) d is)

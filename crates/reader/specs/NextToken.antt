@@ -1,5 +1,5 @@
 -- What next_token answers, what it does to the cells, and what it leaves.
-use Rattle.std.specs.Prelude.{◌≡◌, ℕ, ◌+◌, cond, List, ◌++◌, length, take, drop, Ok, Err, Result, nat_lt, slice_index_or}
+use Rattle.std.specs.Prelude.{◌≡◌, ℕ, ◌+◌, cond, List, ◌++◌, length, take, drop, Some, None, Option, Ok, Err, Result, nat_lt, slice_index_or}
 use Rattle.refusal.specs.declared.fault.Fault.{Fault}
 use Rattle.refusal.specs.declared.fault.Fault.TheVariants.{Outgrown}
 use Rattle.stream.specs.Preprocess.{Placed, preprocessed}
@@ -9,26 +9,24 @@ use Rattle.syntax.specs.Tokens.{TokenValue}
 use Rattle.syntax.specs.Reading.{Next as Reached, next}
 use Rattle.syntax.specs.Reading.Next.{end, token}
 use Rattle.syntax.specs.Extents.{before, taken, collected}
-use Rattle.scan.specs.Ahead.{Ahead, codes, past}
-use Rattle.scan.specs.Windows.{ahead_of}
+use Rattle.lookahead.specs.Ahead.{Ahead, codes, past}
+use Rattle.lookahead.specs.Windows.{ahead_of}
 use Rattle.reader.specs.declared.answer.Located.{Located}
 use Rattle.reader.specs.declared.answer.Next.{Next}
 use Rattle.reader.specs.declared.answer.Next.TheVariants.{Token, End}
-use Rattle.reader.specs.declared.answer.State.{State}
-use Rattle.reader.specs.declared.answer.State.TheVariants.{Going, Ended, Refused}
 use Rattle.reader.specs.declared.reader.Reader.{Reader}
 
--- a reader: what is ahead of it, and whether it goes on
+-- a reader: what is ahead of it, and how it ended, none while it goes on
 pub record Model : Type 0 where
   pub ahead : Ahead
-  pub state : State
+  pub told : Option (Result ℕ Fault)
 
 abbrev pub model_of : {S : Type 0} → (S → List Placed) → (S → Ending) → Reader S → Model
-model_of ahead ending r = record { ahead = ahead_of ahead ending r.window; state = r.state }
+model_of ahead ending r = record { ahead = ahead_of ahead ending r.window; told = r.told }
 
 -- a new reader over a source
 abbrev pub begun : List Placed → Ending → Model
-begun points ending = record { ahead = record { list = preprocessed points; ending = ending }; state = Going }
+begun points ending = record { ahead = record { list = preprocessed points; ending = ending }; told = None }
 
 -- where the next token's first code point stands
 abbrev pub place_of : Ahead → ℕ
@@ -65,18 +63,18 @@ pub record Answers (v : Ahead) (cells0 : List ℕ) (r : Result Next Fault) (cell
   pub cells : cells' ≡ overwritten cells0 (collected (codes v))
   pub left : v' ≡ past (before (codes v) + taken (codes v)) v
 
--- what a reader does after an answer
-abbrev pub state_after : Result Next Fault → State
-state_after (Ok (Token t)) = Going
-state_after (Ok (End p)) = Ended p
-state_after (Err f) = Refused f
+-- the end or a refusal that an answer tells
+abbrev pub told_by : Result Next Fault → Option (Result ℕ Fault)
+told_by (Ok (Token t)) = None
+told_by (Ok (End p)) = Some (Ok p)
+told_by (Err f) = Some (Err f)
 
 -- after the end or a refusal the same answer comes for ever, and nothing is touched
-abbrev pub NextTokenFrom : State → Ahead → List ℕ → Result Next Fault → List ℕ → Model → Type 0
-NextTokenFrom Going v cells r cells' m' = Answers v cells r cells' m'.ahead × (m'.state ≡ state_after r)
-NextTokenFrom (Ended p) v cells r cells' m' = (r ≡ Ok (End p)) × (cells' ≡ cells) × (m'.ahead ≡ v) × (m'.state ≡ Ended p)
-NextTokenFrom (Refused f) v cells r cells' m' = (r ≡ Err f) × (cells' ≡ cells) × (m'.ahead ≡ v) × (m'.state ≡ Refused f)
+abbrev pub NextTokenFrom : Option (Result ℕ Fault) → Ahead → List ℕ → Result Next Fault → List ℕ → Model → Type 0
+NextTokenFrom None v cells r cells' m' = Answers v cells r cells' m'.ahead × (m'.told ≡ told_by r)
+NextTokenFrom (Some (Ok p)) v cells r cells' m' = (r ≡ Ok (End p)) × (cells' ≡ cells) × (m'.ahead ≡ v) × (m'.told ≡ Some (Ok p))
+NextTokenFrom (Some (Err f)) v cells r cells' m' = (r ≡ Err f) × (cells' ≡ cells) × (m'.ahead ≡ v) × (m'.told ≡ Some (Err f))
 
 -- next_token: from a reader and the cells to the answer, the cells then and the reader then
 abbrev pub NextToken : Model → List ℕ → Result Next Fault → List ℕ → Model → Type 0
-NextToken m = NextTokenFrom m.state m.ahead
+NextToken m = NextTokenFrom m.told m.ahead

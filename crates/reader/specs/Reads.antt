@@ -1,5 +1,5 @@
 -- What reading one token does: what is found, and what of it stands in the cells.
-use Rattle.std.specs.Prelude.{◌≡◌, ℕ, Bool, cond, ◌&&◌, ◌||◌, List, [], ◌++◌, length, drop, ◌==◌, slice_index}
+use Rattle.std.specs.Prelude.{◌≡◌, ℕ, Bool, cond, ◌&&◌, ◌||◌, List, [], ◌++◌, length, drop, Option, ◌==◌, slice_index}
 use Rattle.codepoint.specs.Classes.{is_ident, is_whitespace}
 use Rattle.codepoint.specs.Starts.{is_valid_escape}
 use Rattle.syntax.specs.declared.kind.Kind.{Kind}
@@ -8,7 +8,7 @@ use Rattle.syntax.specs.Kinds.{same_kind}
 use Rattle.syntax.specs.Points.{exclamation, number_sign, hyphen, less_than, greater_than, commercial_at}
 use Rattle.syntax.specs.Bodies.{is_quote}
 use Rattle.syntax.specs.Reading.{Found, found, found_bare, found_at, ident_comes, name_at, sign_kind}
-use Rattle.scan.specs.Ahead.{Ahead}
+use Rattle.lookahead.specs.Ahead.{Ahead}
 use Rattle.scan.specs.Fills.{Collects, empty, filled}
 use Rattle.reader.specs.declared.read.Read.{Read}
 
@@ -26,6 +26,10 @@ found_from s = found_at (slice_index s 0) (drop 1 s)
 -- what is read without a text
 abbrev pub bare_read : Kind → ℕ → Read
 bare_read k m = record { kind = k; mark = m; text = empty; all = empty }
+
+-- with a text, and no unit
+abbrev pub texted_read : Kind → Option ℕ → Read
+texted_read k t = record { kind = k; mark = 0; text = t; all = t }
 
 abbrev pub sign_read : ℕ → Read
 sign_read c = cond (same_kind (sign_kind c) Delim) (bare_read Delim c) (bare_read (sign_kind c) 0)

@@ -1,9 +1,8 @@
 //! What a reader answers.
-use refusal::Fault;
 use syntax::kind::Kind;
 
-/// A token whose text stands in the caller's cells from the first on, and its unit behind that: of both the lengths.
-/// The place is that of its first code point.
+/// A token whose text stands in the caller's cells from the first on, and its unit behind that: of both the lengths,
+/// since slices would hold the cells, which are lent anew at each call. The place is that of its first code point.
 #[derive(Clone, Copy, PartialEq, Eq, Debug)]
 pub struct Located {
     pub kind: Kind,
@@ -18,12 +17,4 @@ pub struct Located {
 pub enum Next {
     Token(Located),
     End(usize),
-}
-
-/// Whether a reader goes on, or repeats the end or a refusal for ever.
-#[derive(Clone, Copy)]
-pub enum State {
-    Going,
-    Ended(usize),
-    Refused(Fault),
 }

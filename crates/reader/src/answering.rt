@@ -1,5 +1,6 @@
 //! The answer of a reader that goes on.
-ghost use Rattle.std.specs.Prelude.{◌≡◌, ◌-◌, if◌then◌else◌};
+ghost use Rattle.std.specs.Prelude.{◌≡◌, ℕ, ◌-◌, if◌then◌else◌, Some, None, Ok, Err};
+ghost use Rattle.refusal.specs.declared.fault.Fault.TheVariants.{Outgrown};
 ghost use Rattle.reader.specs.NextToken.{Answers};
 ghost use Rattle.syntax.specs.Kinds.{is_bad_kind};
 
@@ -7,8 +8,9 @@ use crate::answer::{Located, Next};
 use crate::read::Read;
 use crate::tokens::read_token;
 use codepoint::starts::EOF;
+use lookahead::Lookahead;
 use refusal::Fault;
-use scan::{Lookahead, skip_comments};
+use scan::skip_comments;
 use syntax::kind::Kind;
 
 /// The next token, the end or a refusal.
@@ -18,36 +20,33 @@ pub fn answer_next<L: Lookahead>(input: &mut L, cells: &mut [u32]) -> Result<Nex
     skip_comments(input);
     let seen = input.peek();
     if seen.first == EOF {
-        let end = input.ending()?;
+        // With nothing left the ending is in sight.
+        let end = input.ending().unwrap()?;
         return Ok(Next::End(end));
     }
     let read = read_token(input, cells);
-    let behind = input.peek();
-    let outgrown = read.all.outgrown;
-    if outgrown {
-        return Err(Fault::Outgrown(seen.place));
-    }
-    let token = Next::Token(locate(read, seen.place));
-    if behind.third != EOF {
-        return Ok(token);
-    }
-    input.ending()?;
-    Ok(token)
+    let token = locate(read, seen.place)?;
+    // A fault fewer than three code points ahead takes the token's place.
+    input.ending().transpose()?;
+    Ok(Next::Token(token))
 }
 
-/// A token as it is given; of a bad one no text.
-fn locate(read: Read, place: usize) -> Located
-    ensures { result ≡ record { kind = read.kind; mark = read.mark; text = (if is_bad_kind read.kind then 0 else read.text.len); unit = read.all.len - read.text.len; place = place } }
+/// A token as it is given, of a bad one no text; or the refusal of one that outgrew the cells.
+fn locate(read: Read, place: usize) -> Result<Located, Fault>
+    ensures fits { (n m : ℕ) → read.text ≡ Some n → read.all ≡ Some m → result ≡ Ok (record { kind = read.kind; mark = read.mark; text = (if is_bad_kind read.kind then 0 else n); unit = m - n; place = place }) }
+    ensures outgrown { read.all ≡ None → result ≡ Err (Outgrown place) }
 {
-    let text = match read.kind {
-        Kind::BadString | Kind::BadUrl => 0,
-        _ => read.text.len,
+    let (Some(text), Some(all)) = (read.text, read.all) else {
+        return Err(Fault::Outgrown(place));
     };
-    Located {
+    Ok(Located {
         kind: read.kind,
         mark: read.mark,
-        text,
-        unit: read.all.len.saturating_sub(read.text.len),
+        text: match read.kind {
+            Kind::BadString | Kind::BadUrl => 0,
+            _ => text,
+        },
+        unit: all.saturating_sub(text),
         place,
-    }
+    })
 }

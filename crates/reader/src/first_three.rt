@@ -1,10 +1,11 @@
-//! What the next code points decide, beyond what `codepoint` tells.
+//! What the next code points decide, beyond what they themselves tell.
 ghost use Rattle.reader.specs.Reads.{is_comment_closing, is_comment_opening, opens_hash, opens_quote};
 ghost use Rattle.syntax.specs.Bodies.{is_quote};
 ghost use Rattle.std.specs.Prelude.{◌≡◌};
 
 use codepoint::class::{is_ident, is_whitespace};
 use codepoint::starts::is_valid_escape;
+use lookahead::Peek;
 
 pub fn is_quote(c: u32) -> bool
     ensures { result ≡ is_quote c }
@@ -13,34 +14,33 @@ pub fn is_quote(c: u32) -> bool
 }
 
 /// A quote, or whitespace and a quote.
-pub fn opens_quote(first: u32, second: u32) -> bool
-    ensures { result ≡ opens_quote first second }
+#[tactic(auto, unfolding(crate::specs::Reads::opens_quote))]
+pub fn opens_quote(seen: Peek) -> bool
+    ensures { result ≡ opens_quote seen.first seen.second }
 {
-    let quote = is_quote(first);
-    let whitespace = is_whitespace(first);
-    let then_quote = is_quote(second);
-    quote || (whitespace && then_quote)
+    is_quote(seen.first) || (is_whitespace(seen.first) && is_quote(seen.second))
 }
 
 /// `#` before an ident code point or a valid escape.
-pub fn opens_hash(first: u32, second: u32, third: u32) -> bool
-    ensures { result ≡ opens_hash first second third }
+#[tactic(auto, unfolding(crate::specs::Reads::opens_hash))]
+pub fn opens_hash(seen: Peek) -> bool
+    ensures { result ≡ opens_hash seen.first seen.second seen.third }
 {
-    let ident = is_ident(second);
-    let escape = is_valid_escape(second, third);
-    first == 0x23 && (ident || escape)
+    seen.first == 0x23 && (is_ident(seen.second) || is_valid_escape(seen.second, seen.third))
 }
 
 /// `!--`
-pub fn is_comment_opening(first: u32, second: u32, third: u32) -> bool
-    ensures { result ≡ is_comment_opening first second third }
+#[tactic(auto, unfolding(crate::specs::Reads::is_comment_opening))]
+pub fn is_comment_opening(seen: Peek) -> bool
+    ensures { result ≡ is_comment_opening seen.first seen.second seen.third }
 {
-    first == 0x21 && second == 0x2d && third == 0x2d
+    matches!((seen.first, seen.second, seen.third), (0x21, 0x2d, 0x2d))
 }
 
 /// `-->`
-pub fn is_comment_closing(first: u32, second: u32, third: u32) -> bool
-    ensures { result ≡ is_comment_closing first second third }
+#[tactic(auto, unfolding(crate::specs::Reads::is_comment_closing))]
+pub fn is_comment_closing(seen: Peek) -> bool
+    ensures { result ≡ is_comment_closing seen.first seen.second seen.third }
 {
-    first == 0x2d && second == 0x2d && third == 0x3e
+    matches!((seen.first, seen.second, seen.third), (0x2d, 0x2d, 0x3e))
 }

@@ -1,13 +1,14 @@
 //! The first code points of a name, held back until it is known whether the name goes into the cells.
-ghost use Rattle.reader.specs.Holding.{held_text, list_of};
+ghost use Rattle.reader.specs.Holding.{held_text};
+ghost use Rattle.std.specs.Option.{option_to_list};
 ghost use Rattle.scan.specs.Fills.{empty, filled, laid};
-ghost use Rattle.syntax.specs.Reading.{is_url, lower_case};
+ghost use Rattle.syntax.specs.Reading.{is_url};
 ghost use Rattle.std.specs.Prelude.{◌≡◌, ◌&&◌, length, ◌==◌};
 
 use crate::read::EMPTY;
-use scan::{Fill, put};
+use scan::put;
 
-/// Up to three code points, as many as `url` has.
+/// Up to three code points, as many as `url` has: in fixed memory, since the reader never allocates.
 #[derive(Clone, Copy)]
 pub struct Held {
     pub first: Option<u32>,
@@ -19,36 +20,20 @@ pub struct Held {
 pub fn opens_url(next: u32, held: Held) -> bool
     ensures { result ≡ (next == 40 && is_url (held_text held)) }
 {
-    let url = is_url(held);
-    next == 0x28 && url
+    next == 0x28 && is_url(held)
 }
 
 fn is_url(held: Held) -> bool
     ensures { result ≡ is_url (held_text held) }
 {
-    let Some(first) = held.first else {
-        return false;
-    };
-    let Some(second) = held.second else {
-        return false;
-    };
-    let Some(third) = held.third else {
-        return false;
-    };
-    let u = lower_case(first);
-    let r = lower_case(second);
-    let l = lower_case(third);
-    u == 0x75 && r == 0x72 && l == 0x6c
-}
-
-fn lower_case(c: u32) -> u32
-    ensures { result ≡ lower_case c }
-{
-    if c >= 0x41 && c <= 0x5a { c + 0x20 } else { c }
+    matches!(
+        (held.first, held.second, held.third),
+        (Some(0x75 | 0x55), Some(0x72 | 0x52), Some(0x6c | 0x4c))
+    )
 }
 
 /// What is held, into the first cells.
-pub fn put_held(cells: &mut [u32], held: Held) -> Fill
+pub fn put_held(cells: &mut [u32], held: Held) -> Option<usize>
     ensures cells { cells.new ≡ laid cells.old empty (held_text held) }
     ensures fill { result ≡ filled (length cells.old) empty (held_text held) }
 {
@@ -57,12 +42,13 @@ pub fn put_held(cells: &mut [u32], held: Held) -> Fill
     put_some(cells, two, held.third)
 }
 
-fn put_some(cells: &mut [u32], fill: Fill, c: Option<u32>) -> Fill
-    ensures cells { cells.new ≡ laid cells.old fill (list_of c) }
-    ensures fill { result ≡ filled (length cells.old) fill (list_of c) }
+#[tactic(auto, unfolding(scan::specs::Fills::filled, scan::specs::Fills::laid))]
+fn put_some(cells: &mut [u32], so_far: Option<usize>, c: Option<u32>) -> Option<usize>
+    ensures cells { cells.new ≡ laid cells.old so_far (option_to_list c) }
+    ensures fill { result ≡ filled (length cells.old) so_far (option_to_list c) }
 {
     match c {
-        Some(c) => put(cells, fill, c),
-        None => fill,
+        Some(c) => put(cells, so_far, c),
+        None => so_far,
     }
 }

@@ -1,7 +1,7 @@
 //! Ident-like tokens: identifiers, functions, urls and bad urls.
 ghost use Rattle.reader.specs.Holding.{Begun, Holding, held_text};
 ghost use Rattle.reader.specs.Reads.{Reads};
-ghost use Rattle.scan.specs.Ahead.{codes};
+ghost use Rattle.lookahead.specs.Ahead.{codes};
 ghost use Rattle.syntax.specs.Bodies.{in_extra_whitespace};
 ghost use Rattle.syntax.specs.Reading.{ident_like_at, url_or_function};
 ghost use Rattle.syntax.specs.Rules.{beyond};
@@ -11,8 +11,8 @@ use crate::held::{Held, opens_url, put_held};
 use crate::read::Read;
 use crate::texts::read_url;
 use codepoint::class::is_ident;
-use codepoint::starts::is_valid_escape;
-use scan::{Lookahead, collect_name, escape, skip_extra_whitespace, skip_whitespace};
+use lookahead::Lookahead;
+use scan::{collect_name, escape, skip_extra_whitespace, skip_whitespace};
 use syntax::kind::Kind;
 
 /// The name of a url or a bad url goes into no cell, so its first code points are held back, escapes resolved.
@@ -30,19 +30,9 @@ pub fn read_ident_like<L: Lookahead>(input: &mut L, cells: &mut [u32]) -> Read
     let then = input.peek();
     if then.first == 0x28 {
         input.bump();
-        return Read {
-            kind: Kind::Function,
-            mark: 0,
-            text,
-            all: text,
-        };
+        return Read::texted(Kind::Function, text);
     }
-    Read {
-        kind: Kind::Ident,
-        mark: 0,
-        text,
-        all: text,
-    }
+    Read::texted(Kind::Ident, text)
 }
 
 /// Behind the `(` of a function named url: the function where a quote comes, else a url.
@@ -51,14 +41,9 @@ fn read_url_or_function<L: Lookahead>(input: &mut L, held: Held, cells: &mut [u3
 {
     skip_extra_whitespace(input);
     let seen = input.peek();
-    if opens_quote(seen.first, seen.second) {
+    if opens_quote(seen) {
         let text = put_held(cells, held);
-        return Read {
-            kind: Kind::Function,
-            mark: 0,
-            text,
-            all: text,
-        };
+        return Read::texted(Kind::Function, text);
     }
     skip_whitespace(input);
     read_url(input, cells)
@@ -68,13 +53,10 @@ fn read_url_or_function<L: Lookahead>(input: &mut L, held: Held, cells: &mut [u3
 fn hold<L: Lookahead>(input: &mut L) -> Held
     ensures { Holding (L.Lookahead.rest input.old) result (L.Lookahead.rest input.new) }
 {
-    let first = name_one(input);
-    let second = name_one(input);
-    let third = name_one(input);
     Held {
-        first,
-        second,
-        third,
+        first: name_one(input),
+        second: name_one(input),
+        third: name_one(input),
     }
 }
 
@@ -87,10 +69,9 @@ fn name_one<L: Lookahead>(input: &mut L) -> Option<u32>
         input.bump();
         return Some(seen.first);
     }
-    if is_valid_escape(seen.first, seen.second) {
+    if seen.starts_escape() {
         input.bump();
-        let c = escape(input);
-        return Some(c);
+        return Some(escape(input));
     }
     None
 }

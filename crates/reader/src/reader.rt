@@ -2,17 +2,17 @@
 ghost use Rattle.reader.specs.NextToken.{NextToken, begun, model_of};
 ghost use Rattle.std.specs.Prelude.{◌≡◌};
 
-use crate::answer::{Next, State};
+use crate::answer::Next;
 use crate::answering::answer_next;
+use lookahead::Window;
 use refusal::Fault;
-use scan::Window;
 use stream::Source;
 
-/// Reads the tokens of a source, one at a time.
+/// Reads the tokens of a source, one at a time. Once it has told the end or a refusal, it repeats that for ever.
 #[derive(Drop)]
 pub struct Reader<S> {
     window: Window<S>,
-    state: State,
+    told: Option<Result<usize, Fault>>,
 }
 
 impl<S: Source> Reader<S> {
@@ -22,7 +22,7 @@ impl<S: Source> Reader<S> {
     {
         Reader {
             window: Window::new(source),
-            state: State::Going,
+            told: None,
         }
     }
 
@@ -30,16 +30,14 @@ impl<S: Source> Reader<S> {
     pub fn next_token(&mut self, cells: &mut [u32]) -> Result<Next, Fault>
         ensures { NextToken (model_of S.Source.ahead S.Source.ending self.old) cells.old result cells.new (model_of S.Source.ahead S.Source.ending self.new) }
     {
-        match self.state {
-            State::Going => {}
-            State::Ended(place) => return Ok(Next::End(place)),
-            State::Refused(fault) => return Err(fault),
+        if let Some(told) = self.told {
+            return Ok(Next::End(told?));
         }
         let answer = answer_next(&mut self.window, cells);
-        self.state = match answer {
-            Ok(Next::Token(_)) => State::Going,
-            Ok(Next::End(place)) => State::Ended(place),
-            Err(fault) => State::Refused(fault),
+        self.told = match answer {
+            Ok(Next::Token(_)) => None,
+            Ok(Next::End(place)) => Some(Ok(place)),
+            Err(fault) => Some(Err(fault)),
         };
         answer
     }

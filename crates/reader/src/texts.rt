@@ -1,13 +1,13 @@
 //! Tokens with a text: strings, names, numbers and urls.
 ghost use Rattle.reader.specs.Reads.{Reads, at_found, hash_found};
-ghost use Rattle.scan.specs.Ahead.{codes};
+ghost use Rattle.lookahead.specs.Ahead.{codes};
 ghost use Rattle.syntax.specs.Reading.{name_at, numeric_at, string_at, url_at};
 
-use crate::read::{EMPTY, Read, bare};
-use codepoint::starts::{EOF, starts_ident};
+use crate::read::{EMPTY, Read};
+use codepoint::starts::EOF;
+use lookahead::Lookahead;
 use scan::{
-    Lookahead, collect_name, collect_number, collect_string, collect_url, skip_remnants,
-    skip_whitespace,
+    collect_name, collect_number, collect_string, collect_url, skip_remnants, skip_whitespace,
 };
 use syntax::kind::Kind;
 
@@ -18,20 +18,10 @@ pub fn read_string<L: Lookahead>(input: &mut L, quote: u32, cells: &mut [u32]) -
     let text = collect_string(input, quote, cells, EMPTY);
     let seen = input.peek();
     if seen.first == 0x0a {
-        return Read {
-            kind: Kind::BadString,
-            mark: 0,
-            text,
-            all: text,
-        };
+        return Read::texted(Kind::BadString, text);
     }
     input.bump();
-    Read {
-        kind: Kind::QuotedString,
-        mark: 0,
-        text,
-        all: text,
-    }
+    Read::texted(Kind::QuotedString, text)
 }
 
 /// A token whose text is an identifier.
@@ -52,10 +42,8 @@ pub fn read_hash<L: Lookahead>(input: &mut L, cells: &mut [u32]) -> Read
     ensures { Reads cells.old (L.Lookahead.rest input.old) (hash_found (codes (L.Lookahead.rest input.old))) cells.new result (L.Lookahead.rest input.new) }
 {
     let seen = input.peek();
-    if starts_ident(seen.first, seen.second, seen.third) {
-        return read_name(input, Kind::Hash, 1, cells);
-    }
-    read_name(input, Kind::Hash, 0, cells)
+    let mark = u32::from(seen.starts_ident());
+    read_name(input, Kind::Hash, mark, cells)
 }
 
 /// From behind `@`: an at-keyword, or the sign.
@@ -63,10 +51,10 @@ pub fn read_at<L: Lookahead>(input: &mut L, cells: &mut [u32]) -> Read
     ensures { Reads cells.old (L.Lookahead.rest input.old) (at_found (codes (L.Lookahead.rest input.old))) cells.new result (L.Lookahead.rest input.new) }
 {
     let seen = input.peek();
-    if starts_ident(seen.first, seen.second, seen.third) {
+    if seen.starts_ident() {
         return read_name(input, Kind::AtKeyword, 0, cells);
     }
-    bare(Kind::Delim, 0x40)
+    Read::bare(Kind::Delim, 0x40)
 }
 
 /// A number, a percentage or a dimension.
@@ -75,7 +63,7 @@ pub fn read_number<L: Lookahead>(input: &mut L, cells: &mut [u32]) -> Read
 {
     let text = collect_number(input, cells, EMPTY);
     let seen = input.peek();
-    if starts_ident(seen.first, seen.second, seen.third) {
+    if seen.starts_ident() {
         let all = collect_name(input, cells, text);
         return Read {
             kind: Kind::Dimension,
@@ -86,19 +74,9 @@ pub fn read_number<L: Lookahead>(input: &mut L, cells: &mut [u32]) -> Read
     }
     if seen.first == 0x25 {
         input.bump();
-        return Read {
-            kind: Kind::Percentage,
-            mark: 0,
-            text,
-            all: text,
-        };
+        return Read::texted(Kind::Percentage, text);
     }
-    Read {
-        kind: Kind::Number,
-        mark: 0,
-        text,
-        all: text,
-    }
+    Read::texted(Kind::Number, text)
 }
 
 /// A url, from its first code point that is no whitespace.
@@ -108,29 +86,12 @@ pub fn read_url<L: Lookahead>(input: &mut L, cells: &mut [u32]) -> Read
     let text = collect_url(input, cells, EMPTY);
     skip_whitespace(input);
     let seen = input.peek();
-    if seen.first == EOF {
-        return Read {
-            kind: Kind::Url,
-            mark: 0,
-            text,
-            all: text,
-        };
-    }
-    if seen.first == 0x29 {
+    // The end closes a url as `)` does.
+    if seen.first == 0x29 || seen.first == EOF {
         input.bump();
-        return Read {
-            kind: Kind::Url,
-            mark: 0,
-            text,
-            all: text,
-        };
+        return Read::texted(Kind::Url, text);
     }
     skip_remnants(input);
     input.bump();
-    Read {
-        kind: Kind::BadUrl,
-        mark: 0,
-        text,
-        all: text,
-    }
+    Read::texted(Kind::BadUrl, text)
 }

@@ -1,15 +1,15 @@
 //! One token, by what its first code points decide.
 ghost use Rattle.reader.specs.Reads.{Reads, found_from, less_found};
-ghost use Rattle.scan.specs.Ahead.{codes, past};
+ghost use Rattle.lookahead.specs.Ahead.{codes, past};
 ghost use Rattle.std.specs.Prelude.{◌≡◌, ℕ, List};
 
 use crate::first_three::{is_comment_closing, is_comment_opening, is_quote, opens_hash};
 use crate::names::read_ident_like;
-use crate::read::{Read, bare, sign};
+use crate::read::Read;
 use crate::texts::{read_at, read_hash, read_number, read_string};
 use codepoint::class::is_whitespace;
-use codepoint::starts::{starts_ident, starts_number};
-use scan::{Lookahead, skip_whitespace};
+use lookahead::Lookahead;
+use scan::skip_whitespace;
 use syntax::kind::Kind;
 
 /// A token, from its first code point. What it collects goes into the cells from the first on.
@@ -20,13 +20,13 @@ pub fn read_token<L: Lookahead>(input: &mut L, cells: &mut [u32]) -> Read
     if is_whitespace(seen.first) {
         input.bump();
         skip_whitespace(input);
-        return bare(Kind::Whitespace, 0);
+        return Read::bare(Kind::Whitespace, 0);
     }
     if is_quote(seen.first) {
         input.bump();
         return read_string(input, seen.first, cells);
     }
-    if opens_hash(seen.first, seen.second, seen.third) {
+    if opens_hash(seen) {
         input.bump();
         return read_hash(input, cells);
     }
@@ -34,22 +34,22 @@ pub fn read_token<L: Lookahead>(input: &mut L, cells: &mut [u32]) -> Read
         input.bump();
         return read_at(input, cells);
     }
-    if starts_number(seen.first, seen.second, seen.third) {
+    if seen.starts_number() {
         return read_number(input, cells);
     }
-    if is_comment_closing(seen.first, seen.second, seen.third) {
+    if is_comment_closing(seen) {
         skip_three(input);
-        return bare(Kind::Cdc, 0);
+        return Read::bare(Kind::Cdc, 0);
     }
     if seen.first == 0x3c {
         input.bump();
         return read_less(input);
     }
-    if starts_ident(seen.first, seen.second, seen.third) {
+    if seen.starts_ident() {
         return read_ident_like(input, cells);
     }
     input.bump();
-    sign(seen.first)
+    Read::sign(seen.first)
 }
 
 /// From behind `<`: `<!--`, or the sign.
@@ -57,11 +57,11 @@ fn read_less<L: Lookahead>(input: &mut L) -> Read
     ensures { (cells : List ℕ) → Reads cells (L.Lookahead.rest input.old) (less_found (codes (L.Lookahead.rest input.old))) cells result (L.Lookahead.rest input.new) }
 {
     let seen = input.peek();
-    if is_comment_opening(seen.first, seen.second, seen.third) {
+    if is_comment_opening(seen) {
         skip_three(input);
-        return bare(Kind::Cdo, 0);
+        return Read::bare(Kind::Cdo, 0);
     }
-    bare(Kind::Delim, 0x3c)
+    Read::bare(Kind::Delim, 0x3c)
 }
 
 fn skip_three<L: Lookahead>(input: &mut L)

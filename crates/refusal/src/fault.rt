@@ -2,10 +2,11 @@
 ghost use Rattle.std.specs.Prelude.{◌≡◌, Some};
 ghost use Rattle.refusal.specs.Faults.{fault_shown, layer_name, layer_of, number_of, place_of};
 
+use std::error::Error;
 use std::fmt;
 
 /// The layer that a refusal comes from.
-#[derive(Clone, Copy, PartialEq, Eq)]
+#[derive(Clone, Copy, PartialEq, Eq, Debug)]
 pub enum Layer {
     Source,
     Reader,
@@ -15,7 +16,7 @@ pub enum Layer {
 }
 
 /// A refusal, with its place. The comments say each case's number.
-#[derive(Clone, Copy, PartialEq, Eq)]
+#[derive(Clone, Copy, PartialEq, Eq, Debug)]
 pub enum Fault {
     /// 1: a number above U+10FFFF in an array of code points, at its index.
     OutOfRange(usize),
@@ -145,9 +146,4 @@ impl fmt::Display for Fault {
     }
 }
 
-/// For logs, the same text.
-impl fmt::Debug for Fault {
-    fn fmt<W: fmt::Write>(&self, f: &mut fmt::Formatter<W>) -> fmt::Result {
-        write!(f, "{self}")
-    }
-}
+impl Error for Fault {}

@@ -1,34 +1,22 @@
--- The loop over the digits of a number, and its parts one after another.
-use Rattle.std.proofs.Common.{◌≡◌, ℕ, zero, suc, ◌+◌, ◌<◌, ◌≤◌, true, false, List, [], ◌∷◌, length, get_or, drop, sym, refl, ap, ◌∙◌, add-one, drop-cons}
-use Rattle.std.proofs.lemmas.List.{drop_all}
+-- The parts of a number one after another.
+use Rattle.std.proofs.Common.{◌≡◌, ℕ, zero, suc, ◌+◌, Bool, true, false, cond, List, [], ◌∷◌, get_or, drop, refl, ap, ◌∙◌, arith}
+use Rattle.std.specs.List.{prefix_len}
 use Rattle.codepoint.specs.Classes.{is_digit}
 use Rattle.syntax.specs.Rules.{left, leaves}
 use Rattle.syntax.specs.Rules.Step.{halt, give}
 use Rattle.syntax.specs.Bodies.{while}
 use Rattle.syntax.specs.Numbers.{sign_length, fraction_length, exponent_length, part, part_if_any, past_digits, with_fraction, number_at}
 
-past_one : (c : ℕ) (t : List ℕ) → is_digit c ≡ true → past_digits (c ∷ t) ≡ past_digits t
+-- past the digits is past as many code points as are digits at the front
+pub past_prefix : (s : List ℕ) → drop (prefix_len is_digit s) s ≡ past_digits s
 unfolding left while
-past_one c t h =
-    let e : while is_digit (c ∷ t) ≡ give (c ∷ []) 0 = rw (h, while) refl in
-    ap (λ s. leaves s (c ∷ t) (λ k. left (while is_digit) k t)) e
-
-past_none : (c : ℕ) (t : List ℕ) → is_digit c ≡ false → past_digits (c ∷ t) ≡ c ∷ t
-unfolding left while
-past_none c t h =
-    let e : while is_digit (c ∷ t) ≡ halt = rw (h, while) refl in
-    ap (λ s. leaves s (c ∷ t) (λ k. left (while is_digit) k t)) e
-
-module _ (xs : List ℕ) (i : ℕ) where
-  pub past_digit : i < length xs → is_digit (get_or xs i 0) ≡ true → past_digits (drop (i + 1) xs) ≡ past_digits (drop i xs)
-  past_digit h e = rw (add-one, drop-cons xs i 0 h) (sym (past_one (get_or xs i 0) (drop (suc i) xs) e))
-
-  pub at_no_digit : i < length xs → is_digit (get_or xs i 0) ≡ false → drop i xs ≡ past_digits (drop i xs)
-  at_no_digit h e = rw (drop-cons xs i 0 h) (sym (past_none (get_or xs i 0) (drop (suc i) xs) e))
-
-  pub at_end : length xs ≤ i → drop i xs ≡ past_digits (drop i xs)
-  unfolding left
-  at_end h = rw (drop_all i xs h) refl
+past_prefix [] = refl
+past_prefix (c ∷ s) = by_first (is_digit c) (past_prefix s)
+  where
+    by_first : (b : Bool) → drop (prefix_len is_digit s) s ≡ past_digits s
+        → drop (cond b (1 + prefix_len is_digit s) 0) (c ∷ s) ≡ leaves (elim b [ true ↦ give (c ∷ []) 0 | false ↦ halt ]) (c ∷ s) (λ k. left (while is_digit) k s)
+    by_first true e = let one : 1 + prefix_len is_digit s ≡ suc (prefix_len is_digit s) = omega arith in rw one e
+    by_first false e = refl
 
 -- what is left does not depend on what was read before
 any_text : (k : ℕ) (t u s : List ℕ) → (part_if_any k t s).1 ≡ (part_if_any k u s).1

@@ -1,12 +1,12 @@
 //! Whether a token is lawful: whether some input yields it and it is not bad.
-ghost use Rattle.codepoint.specs.Classes.{is_digit, is_non_printable};
-ghost use Rattle.syntax.specs.Lawful.{is_bare, is_delim_mark, is_empty, is_hash, is_lawful, is_loose, is_name, is_number, is_text, is_text_point};
-ghost use Rattle.syntax.specs.Points.{hyphen};
+#![tactic(auto, unfolding(syntax::specs::Lawful::is_delim_mark, syntax::specs::Lawful::is_lawful, syntax::specs::Lawful::is_text_point))]
+
+ghost use Rattle.syntax.specs.Lawful.{is_delim_mark, is_empty, is_hash, is_lawful, is_loose, is_name, is_text, is_text_point};
 ghost use Rattle.syntax.specs.Tokens.{value_of};
-ghost use Rattle.std.specs.Prelude.{◌≡◌, not, ◌&&◌, ◌||◌, ◌==◌};
+ghost use Rattle.std.specs.Prelude.{◌≡◌, ◌&&◌, ◌==◌};
 
 use crate::number::is_number;
-use crate::points::{is_empty, is_one_of, point_at};
+use crate::points::is_one_of;
 use codepoint::class::{is_digit, is_non_printable};
 use codepoint::utf8::is_scalar_value;
 use syntax::kind::Kind;
@@ -17,57 +17,22 @@ pub fn is_lawful(token: Token<'_>) -> bool
     ensures { result ≡ is_lawful (value_of token.entry) }
 {
     match token.kind {
-        Kind::Ident | Kind::Function | Kind::AtKeyword => is_named(token),
-        Kind::Hash => is_hash(token),
-        Kind::QuotedString | Kind::Url => is_texted(token),
+        Kind::Ident | Kind::Function | Kind::AtKeyword => is_plain(token) && is_name(token.text),
+        Kind::Hash => is_hash_text(token.mark, token.text) && token.unit.is_empty(),
+        Kind::QuotedString | Kind::Url => is_plain(token) && is_text(token.text),
         Kind::BadString | Kind::BadUrl => false,
-        Kind::Delim => is_delim(token),
-        Kind::Number | Kind::Percentage => is_numeric(token),
-        Kind::Dimension => is_dimension(token),
-        _ => is_bare(token),
+        Kind::Delim => is_delim_mark(token.mark) && token.text.is_empty() && token.unit.is_empty(),
+        Kind::Number | Kind::Percentage => is_plain(token) && is_number(token.text),
+        Kind::Dimension => token.mark == 0 && is_number(token.text) && is_name(token.unit),
+        _ => is_plain(token) && token.text.is_empty(),
     }
 }
 
-fn is_named(token: Token<'_>) -> bool
-    ensures { result ≡ (token.entry.mark == 0 && is_name token.entry.text.now && is_empty token.entry.unit.now) }
+/// A token without a mark or a unit.
+fn is_plain(token: Token<'_>) -> bool
+    ensures { result ≡ (token.entry.mark == 0 && is_empty token.entry.unit.now) }
 {
-    token.mark == 0 && is_name(token.text) && is_empty(token.unit)
-}
-
-fn is_hash(token: Token<'_>) -> bool
-    ensures { result ≡ (is_hash token.entry.mark token.entry.text.now && is_empty token.entry.unit.now) }
-{
-    is_hash_text(token.mark, token.text) && is_empty(token.unit)
-}
-
-fn is_texted(token: Token<'_>) -> bool
-    ensures { result ≡ (token.entry.mark == 0 && is_text token.entry.text.now && is_empty token.entry.unit.now) }
-{
-    token.mark == 0 && is_text(token.text) && is_empty(token.unit)
-}
-
-fn is_numeric(token: Token<'_>) -> bool
-    ensures { result ≡ (token.entry.mark == 0 && is_number token.entry.text.now && is_empty token.entry.unit.now) }
-{
-    token.mark == 0 && is_number(token.text) && is_empty(token.unit)
-}
-
-fn is_dimension(token: Token<'_>) -> bool
-    ensures { result ≡ (token.entry.mark == 0 && is_number token.entry.text.now && is_name token.entry.unit.now) }
-{
-    token.mark == 0 && is_number(token.text) && is_name(token.unit)
-}
-
-fn is_delim(token: Token<'_>) -> bool
-    ensures { result ≡ (is_delim_mark token.entry.mark && is_empty token.entry.text.now && is_empty token.entry.unit.now) }
-{
-    is_delim_mark(token.mark) && is_empty(token.text) && is_empty(token.unit)
-}
-
-fn is_bare(token: Token<'_>) -> bool
-    ensures { result ≡ is_bare token.entry.mark token.entry.text.now token.entry.unit.now }
-{
-    token.mark == 0 && is_empty(token.text) && is_empty(token.unit)
+    token.mark == 0 && token.unit.is_empty()
 }
 
 /// The code points that a text may have: scalar values but U+0000.
@@ -80,31 +45,25 @@ fn is_text_point(c: u32) -> bool
 fn is_text(text: &[u32]) -> bool
     ensures { result ≡ is_text text.now }
 {
-    for c in text {
-        if !is_text_point(*c) {
-            return false;
-        }
-    }
-    true
+    text.iter().all(|c| is_text_point(*c))
 }
 
 fn is_name(text: &[u32]) -> bool
     ensures { result ≡ is_name text.now }
 {
-    is_text(text) && !is_empty(text)
+    is_text(text) && !text.is_empty()
 }
 
 /// The text of a hash that can start no identifier: a digit first, or `-` alone or before a digit.
 fn is_loose(text: &[u32]) -> bool
     ensures { result ≡ is_loose text.now }
 {
-    is_loose_start(point_at(text, 0), point_at(text, 1), text.len() == 1)
-}
-
-fn is_loose_start(first: u32, second: u32, alone: bool) -> bool
-    ensures { result ≡ (is_digit first || (first == hyphen && (alone || is_digit second))) }
-{
-    is_digit(first) || (first == 0x2d && (alone || is_digit(second)))
+    match text {
+        [0x2d] => true,
+        [0x2d, second, ..] => is_digit(*second),
+        [first, ..] => is_digit(*first),
+        [] => false,
+    }
 }
 
 fn is_hash_text(mark: u32, text: &[u32]) -> bool
@@ -121,11 +80,5 @@ fn is_hash_text(mark: u32, text: &[u32]) -> bool
 fn is_delim_mark(mark: u32) -> bool
     ensures { result ≡ is_delim_mark mark }
 {
-    is_delim_control(mark) || is_one_of(b"!#$%&*+-./<=>?@\\^`|~", mark)
-}
-
-fn is_delim_control(mark: u32) -> bool
-    ensures { result ≡ (is_non_printable mark && not (mark == 0)) }
-{
-    is_non_printable(mark) && mark != 0
+    (is_non_printable(mark) && mark != 0) || is_one_of(b"!#$%&*+-./<=>?@\\^`|~", mark)
 }

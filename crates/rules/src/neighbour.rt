@@ -1,4 +1,6 @@
 //! Between which neighbours a comment stands.
+#![tactic(auto, unfolding(syntax::specs::Neighbours::apart, syntax::specs::Neighbours::left_of, syntax::specs::Neighbours::right_of))]
+
 ghost use Rattle.std.specs.Prelude.{◌≡◌, ◌<◌};
 ghost use Rattle.syntax.specs.Neighbours.{apart, column_of, is_dashes, left_of, right_of, row_of};
 ghost use Rattle.syntax.specs.Tokens.{delim, value_of};
@@ -106,8 +108,5 @@ fn right_of_delim(mark: u32) -> Right
 fn is_dashes(text: &[u32]) -> bool
     ensures { result ≡ is_dashes text.now }
 {
-    match text {
-        [0x2d, 0x2d] => true,
-        _ => false,
-    }
+    matches!(text, [0x2d, 0x2d])
 }

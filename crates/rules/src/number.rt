@@ -1,31 +1,26 @@
 //! Whether a text is the spelling of a number.
 ghost use Rattle.syntax.specs.Lawful.{is_number};
-ghost use Rattle.syntax.specs.Numbers.{exponent_length, fraction_length, is_sign, number_at, part_if_any, past_digits, sign_length};
+ghost use Rattle.syntax.specs.Numbers.{number_at, part_if_any, past_digits};
 ghost use Rattle.std.specs.Prelude.{◌≡◌, [], drop};
 
-use crate::points::{is_e, is_empty, point_at};
+use crate::points::point_at;
 use codepoint::class::is_digit;
 use codepoint::starts::starts_number;
+use syntax::number::{exponent_length, fraction_length, sign_length};
 
 /// What is left behind the first code points.
 fn beyond(text: &[u32], count: usize) -> &[u32]
     ensures { result.now ≡ drop count text.now }
 {
-    if count < text.len() {
-        &text[count..]
-    } else {
-        &[]
-    }
+    text.get(count..).unwrap_or(&[])
 }
 
+/// What is left behind the digits at the front.
 fn past_digits(text: &[u32]) -> &[u32]
     ensures { result.now ≡ past_digits text.now }
 {
-    let mut at = 0;
-    while at < text.len() && is_digit(text[at]) {
-        at += 1;
-    }
-    &text[at..]
+    let digits = text.iter().take_while(|c| is_digit(**c)).count();
+    &text[digits..]
 }
 
 /// What is left behind a part of a number: so many code points before its digits, or 0 where it is not there.
@@ -39,45 +34,8 @@ fn past_part(text: &[u32], before: usize) -> &[u32]
     }
 }
 
-fn is_sign(c: u32) -> bool
-    ensures { result ≡ is_sign c }
-{
-    c == 0x2b || c == 0x2d
-}
-
-fn sign_length(first: u32) -> usize
-    ensures { result ≡ sign_length first }
-{
-    if is_sign(first) { 1 } else { 0 }
-}
-
-fn fraction_length(first: u32, second: u32) -> usize
-    ensures { result ≡ fraction_length first second }
-{
-    if first == 0x2e && is_digit(second) {
-        1
-    } else {
-        0
-    }
-}
-
-fn exponent_length(first: u32, second: u32, third: u32) -> usize
-    ensures { result ≡ exponent_length first second third }
-{
-    if !is_e(first) {
-        return 0;
-    }
-    if is_digit(second) {
-        return 1;
-    }
-    if is_sign(second) && is_digit(third) {
-        2
-    } else {
-        0
-    }
-}
-
 /// What is left behind the number at the front.
+#[tactic(auto, using(crate::proofs::Digits::past_number))]
 fn past_number(text: &[u32]) -> &[u32]
     ensures { result.now ≡ (number_at text.now).1 }
 {
@@ -101,5 +59,5 @@ pub fn is_number(text: &[u32]) -> bool
     ensures { result ≡ is_number text.now }
 {
     starts_number(point_at(text, 0), point_at(text, 1), point_at(text, 2))
-        && is_empty(past_number(text))
+        && past_number(text).is_empty()
 }

@@ -38,8 +38,5 @@ pub fn waiting_after(waiting: Waiting, token: Token<'_>) -> Waiting
 fn is_url(name: &[u32]) -> bool
     ensures { result ≡ is_url name.now }
 {
-    match name {
-        [0x75 | 0x55, 0x72 | 0x52, 0x6c | 0x4c] => true,
-        _ => false,
-    }
+    matches!(name, [0x75 | 0x55, 0x72 | 0x52, 0x6c | 0x4c])
 }

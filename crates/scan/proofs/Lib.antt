@@ -1,7 +1,8 @@
-pub mod Windows
 pub mod Cells
 pub mod States
-pub mod Turns
-pub mod Hexes
 pub mod Arms
+pub mod Whiles
+pub mod Turns
+pub mod Comments
+pub mod Hexes
 pub mod Numbering

@@ -1,23 +1,16 @@
 -- What is left behind one thing and another.
-use Rattle.std.proofs.Common.{◌≡◌, ℕ, zero, suc, ◌+◌, ◌<◌, List, [], ◌∷◌, ◌++◌, length, drop, sym, refl, ap, ◌∙◌, suc-add, zero-add, arith, length-drop}
+use Rattle.std.proofs.Common.{◌≡◌, ℕ, zero, suc, ◌+◌, ◌<◌, List, [], ◌∷◌, ◌++◌, length, drop, sym, refl, ap, ◌∙◌, arith}
+use Rattle.std.proofs.Math.Seq.{drop-nil}
+pub use Rattle.std.proofs.lemmas.List.{drop-drop as drop_drop}
 use Rattle.codepoint.specs.Utf8.{code_points_of}
 use Rattle.stream.specs.Preprocess.{Placed}
 use Rattle.syntax.specs.Rules.{Step, out, left, gives, leaves, collect, beyond}
 use Rattle.syntax.specs.Rules.Step.{halt, give}
-use Rattle.scan.specs.Ahead.{Ahead, Left, codes, past}
+use Rattle.lookahead.specs.Ahead.{Ahead, Left, codes, past}
 
 -- two are the same when their parts are
 pub same : (x y : Ahead) → x.list ≡ y.list → x.ending ≡ y.ending → x ≡ y
 same x y p q = λ i. record { list = p i; ending = q i }
-
-drop_none : {A : Type 0} (m : ℕ) → drop {A = A} m [] ≡ []
-drop_none zero = refl
-drop_none (suc m) = refl
-
-pub drop_drop : {A : Type 0} (m n : ℕ) (s : List A) → drop m (drop n s) ≡ drop (n + m) s
-drop_drop m zero s = rw zero-add refl
-drop_drop m (suc n) [] = drop_none m ∙ sym (drop_none (suc n + m))
-drop_drop m (suc n) (c ∷ s) = rw suc-add (drop_drop m n s)
 
 pub past_past : (m n : ℕ) (s : Ahead) → past m (past n s) ≡ past (n + m) s
 past_past m n s = same _ _ (drop_drop m n s.list) refl
@@ -26,20 +19,17 @@ pub past_one : (n : ℕ) (s : Ahead) → past n (past 1 s) ≡ past (suc n) s
 past_one n s = same _ _ (go s.list) refl
   where
     go : (l : List Placed) → drop n (drop 1 l) ≡ drop (suc n) l
-    go [] = drop_none n
+    go [] = drop-nil n
     go (p ∷ l) = refl
 
 pub one_past : (n : ℕ) (s : Ahead) → past 1 (past n s) ≡ past (suc n) s
 one_past n s = past_past 1 n s ∙ ap (λ k. past k s) (let e : n + 1 ≡ suc n = omega arith in e)
 
-pub past_end : (k : ℕ) (s : Ahead) → s.list ≡ [] → past k s ≡ s
-past_end k s e = same _ _ (ap (drop k) e ∙ drop_none k ∙ sym e) refl
-
 -- after a look, two bumps
 pub bump_twice : (s s0 s1 s2 : Ahead) → s0 ≡ s → s1 ≡ past 1 s0 → s2 ≡ past 1 s1 → s2 ≡ past 2 s
 bump_twice s s0 s1 s2 e e1 e2 = e2 ∙ ap (past 1) (e1 ∙ ap (past 1) e) ∙ past_one 1 s
 
-pub code_points_dropped : (k : ℕ) (ps : List Placed) → code_points_of (drop k ps) ≡ drop k (code_points_of ps)
+code_points_dropped : (k : ℕ) (ps : List Placed) → code_points_of (drop k ps) ≡ drop k (code_points_of ps)
 code_points_dropped zero ps = refl
 code_points_dropped (suc k) [] = refl
 code_points_dropped (suc k) (p ∷ ps) = code_points_dropped k ps
@@ -114,10 +104,3 @@ module _ {B : Type 0} (f : List ℕ → Step B) where
 
     pub turn_left : beyond f (codes s') ≡ beyond f (codes s)
     turn_left = ap (beyond f) (ap codes e ∙ codes_past (suc k) s) ∙ sym (left_behind (codes s) v k h)
-
-    pub turn_less : length s'.list < length s.list
-    turn_less =
-        let n = h.some in
-        let m = length_codes s.list in
-        let q : length s'.list ≡ length (drop (suc k) s.list) = ap (λ w. length w.list) e in
-        omega (arith, q, length-drop (suc k) s.list)

@@ -1,4 +1,2 @@
-pub mod Ahead
-pub mod Windows
 pub mod Fills
-pub mod Tests
+pub mod Turns

@@ -1,29 +1,17 @@
-//! Cells that are filled one after another.
-ghost use Rattle.scan.specs.Fills.{onto};
-ghost use Rattle.std.specs.Prelude.{◌≡◌, length, slice_set};
-
-/// How many cells of a buffer are filled, and whether something found no cell.
-#[derive(Clone, Copy)]
-pub struct Fill {
-    pub len: usize,
-    pub outgrown: bool,
-}
+//! Cells that are filled one after another. How many are is an `Option<usize>`: none, once something found no cell.
+ghost use Rattle.scan.specs.Fills.{onto, set_next};
+ghost use Rattle.std.specs.Prelude.{◌≡◌, length};
 
 /// One code point into the next cell, if there is one.
-pub fn put(cells: &mut [u32], fill: Fill, c: u32) -> Fill
-    ensures cells { cells.new ≡ slice_set cells.old fill.len c }
-    ensures fill { result ≡ onto (length cells.old) fill }
+pub fn put(cells: &mut [u32], filled: Option<usize>, c: u32) -> Option<usize>
+    ensures cells { cells.new ≡ set_next cells.old filled c }
+    ensures fill { result ≡ onto (length cells.old) filled }
 {
-    if fill.len < cells.len() {
-        cells[fill.len] = c;
-        Fill {
-            len: fill.len + 1,
-            outgrown: fill.outgrown,
-        }
-    } else {
-        Fill {
-            len: fill.len,
-            outgrown: true,
-        }
+    let at = filled?;
+    // By the index: of what a slice is after `get_mut`, std says nothing.
+    if at >= cells.len() {
+        return None;
     }
+    cells[at] = c;
+    Some(at + 1)
 }

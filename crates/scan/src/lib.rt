@@ -2,23 +2,20 @@
 //! cells.
 //!
 //! This crate is the inner part of the crate `reader`, which is the one to call. All of it works over `Lookahead`,
-//! three code points in sight; `Window` gives that over the preprocessing layer over any source. Each function's
-//! contract names the rule of `syntax` that it follows: what the rule collects is laid into the cells, and what the
-//! rule leaves is ahead afterwards, places included.
+//! three code points in sight. Each function's contract names the rule of `syntax` that it follows: what the rule
+//! collects is laid into the cells, and what the rule leaves is ahead afterwards, places included.
 #![tactic(auto)]
 
 mod collecting;
 mod escapes;
 mod fill;
-mod lookahead;
 mod number;
+mod rule;
+mod rules;
 mod skipping;
-mod window;
 
 pub use collecting::{collect_digits, collect_name, collect_string, collect_url};
 pub use escapes::escape;
-pub use fill::{Fill, put};
-pub use lookahead::{Lookahead, Peek};
+pub use fill::put;
 pub use number::collect_number;
 pub use skipping::{skip_comments, skip_extra_whitespace, skip_remnants, skip_whitespace};
-pub use window::Window;

@@ -5,25 +5,13 @@ ghost use Rattle.slip_user.specs.Blocks.{Writes};
 ghost use Rattle.syntax.specs.Tokens.{bare, value_of};
 ghost use Rattle.syntax.specs.declared.kind.Kind.TheVariants.{CloseCurly, CloseSquare, OpenCurly, OpenSquare};
 ghost use Rattle.writer.specs.Writes.{Closes};
-ghost use Rattle.std.specs.Prelude.{◌≡◌, [], ◌∷◌};
+ghost use Rattle.std.specs.Prelude.{[], ◌∷◌};
 
 use refusal::Fault;
 use stream::Sink;
 use syntax::kind::Kind;
 use syntax::token::Token;
 use writer::{Slip, Writer};
-
-/// A token that is only its kind.
-fn bare_token(kind: Kind) -> Token<'static>
-    ensures { value_of result ≡ bare kind }
-{
-    Token {
-        kind,
-        mark: 0,
-        text: &[],
-        unit: &[],
-    }
-}
 
 /// Closes a block, which is the one way to let go of its slip.
 pub fn close_block<S: Sink>(writer: &mut Writer<S>, slip: Slip) -> Result<(), Fault>
@@ -33,21 +21,23 @@ pub fn close_block<S: Sink>(writer: &mut Writer<S>, slip: Slip) -> Result<(), Fa
 }
 
 /// A token in a block. A refusal inside is answered only after the block is closed.
+#[tactic(auto, using(crate::proofs::Running::blocks))]
 pub fn write_block<S: Sink>(writer: &mut Writer<S>, token: Token<'_>) -> Result<(), Fault>
     ensures { Writes S.Sink.held S.Sink.takes writer.old (bare OpenCurly ∷ value_of token.entry ∷ bare CloseCurly ∷ []) result writer.new }
 {
-    let slip = writer.open(bare_token(Kind::OpenCurly))?;
+    let slip = writer.open(Token::bare(Kind::OpenCurly))?;
     let inside = writer.put(token);
     close_block(writer, slip)?;
     inside
 }
 
 /// Two empty blocks one after the other, each closed by its own slip.
+#[tactic(auto, using(crate::proofs::Running::blocks))]
 pub fn write_two_blocks<S: Sink>(writer: &mut Writer<S>) -> Result<(), Fault>
     ensures { Writes S.Sink.held S.Sink.takes writer.old (bare OpenCurly ∷ bare CloseCurly ∷ bare OpenSquare ∷ bare CloseSquare ∷ []) result writer.new }
 {
-    let mut first = Some(writer.open(bare_token(Kind::OpenCurly))?);
+    let mut first = Some(writer.open(Token::bare(Kind::OpenCurly))?);
     writer.close(first.take().unwrap())?;
-    let mut second = Some(writer.open(bare_token(Kind::OpenSquare))?);
+    let mut second = Some(writer.open(Token::bare(Kind::OpenSquare))?);
     writer.close(second.take().unwrap())
 }

@@ -2,4 +2,4 @@ pub mod Bytes
 pub mod Emissions
 pub mod Texts
 pub mod Units
-pub mod Spelled
+pub mod Points

@@ -1,4 +1,6 @@
 //! The places where a text stands, each with what opens and closes it and how it treats a code point.
+#![tactic(auto, unfolding(codepoint::specs::Classes::is_scalar_value, codepoint::specs::Utf8::bytes_of, codepoint::specs::Utf8::scalar_bytes, codepoint::specs::Utf8::utf8, syntax::specs::Places::identifier, syntax::specs::Places::loose, syntax::specs::Places::quoted_string, syntax::specs::Places::url))]
+
 ghost use Rattle.std.specs.Prelude.{◌≡◌, ℕ, ◌&&◌, length, ◌==◌};
 ghost use Rattle.codepoint.specs.Utf8.{bytes_of};
 ghost use Rattle.syntax.specs.Places.{Place, identifier, is_leading, loose, quoted_string, url};
@@ -10,6 +12,8 @@ use syntax::place::Treatment;
 const HYPHEN: u32 = 0x2d;
 
 /// A place where a text stands. The getters say what the constants are, which generic code cannot see.
+// A ghost `OPEN` beside the constant would be a `Bor (List ℕ)`, with an address that no impl can name: the check has
+// `ref_ptr = (c.result-1.given.0, 0)` for it, and "the facts known there allow values at which this goal is false".
 pub trait SpellingPlace {
     const OPEN: &'static [u8];
 

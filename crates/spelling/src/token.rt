@@ -1,4 +1,6 @@
 //! Tokens spelled into any sink.
+#![tactic(auto, using(crate::proofs::Emissions::parts), unfolding(codepoint::specs::Classes::is_scalar_value, codepoint::specs::Utf8::bytes_of, codepoint::specs::Utf8::scalar_bytes, codepoint::specs::Utf8::utf8, syntax::specs::Spelling::spelled))]
+
 ghost use Rattle.codepoint.specs.Utf8.{bytes_of};
 ghost use Rattle.stream.specs.Sinks.{Emits};
 ghost use Rattle.syntax.specs.Places.{identifier, spelled_in, unit_behind};
@@ -6,6 +8,7 @@ ghost use Rattle.syntax.specs.Spelling.{blank, hash_place, spelled};
 ghost use Rattle.syntax.specs.Tokens.{value_of};
 ghost use Rattle.std.specs.Prelude.{◌≡◌, ◌++◌, codes};
 
+use crate::place::{Identifier, Loose, QuotedString, Url};
 use crate::text::{emit_points, emit_text, emit_unit};
 use refusal::Fault;
 use stream::{Sink, emit, emit_code_point};
@@ -18,12 +21,12 @@ pub fn emit_token<S: Sink>(sink: &mut S, waiting: Waiting, token: Token<'_>) -> 
     ensures { Emits S.Sink.held S.Sink.takes sink.old (bytes_of (spelled waiting (value_of token.entry))) result sink.new }
 {
     match token.kind {
-        Kind::Ident => emit_text::<crate::place::Identifier, S>(sink, token.text),
+        Kind::Ident => emit_text::<Identifier, S>(sink, token.text),
         Kind::Function => emit_function(sink, token.text),
         Kind::AtKeyword => emit_at_keyword(sink, token.text),
         Kind::Hash => emit_hash(sink, token.mark, token.text),
-        Kind::QuotedString => emit_text::<crate::place::QuotedString, S>(sink, token.text),
-        Kind::Url => emit_text::<crate::place::Url, S>(sink, token.text),
+        Kind::QuotedString => emit_text::<QuotedString, S>(sink, token.text),
+        Kind::Url => emit_text::<Url, S>(sink, token.text),
         Kind::BadString | Kind::BadUrl => Ok(()),
         Kind::Delim => emit_code_point(sink, token.mark),
         Kind::Number => emit_points(sink, token.text),
@@ -57,7 +60,7 @@ fn blank_of(waiting: Waiting) -> u32
 fn emit_function<S: Sink>(sink: &mut S, name: &[u32]) -> Result<(), Fault>
     ensures { Emits S.Sink.held S.Sink.takes sink.old (bytes_of (spelled_in identifier name.now ++ codes "(")) result sink.new }
 {
-    emit_text::<crate::place::Identifier, S>(sink, name)?;
+    emit_text::<Identifier, S>(sink, name)?;
     emit(sink, b"(")
 }
 
@@ -65,7 +68,7 @@ fn emit_at_keyword<S: Sink>(sink: &mut S, name: &[u32]) -> Result<(), Fault>
     ensures { Emits S.Sink.held S.Sink.takes sink.old (bytes_of (codes "@" ++ spelled_in identifier name.now)) result sink.new }
 {
     emit(sink, b"@")?;
-    emit_text::<crate::place::Identifier, S>(sink, name)
+    emit_text::<Identifier, S>(sink, name)
 }
 
 fn emit_hash<S: Sink>(sink: &mut S, mark: u32, text: &[u32]) -> Result<(), Fault>
@@ -73,9 +76,9 @@ fn emit_hash<S: Sink>(sink: &mut S, mark: u32, text: &[u32]) -> Result<(), Fault
 {
     emit(sink, b"#")?;
     if mark == 1 {
-        emit_text::<crate::place::Identifier, S>(sink, text)
+        emit_text::<Identifier, S>(sink, text)
     } else {
-        emit_text::<crate::place::Loose, S>(sink, text)
+        emit_text::<Loose, S>(sink, text)
     }
 }
 

@@ -1,40 +1,15 @@
--- What the array source and the byte source hand over, by what comes first.
-use Rattle.std.proofs.Common.{◌≡◌, ℕ, suc, ◌+◌, ◌-◌, ◌<◌, ◌≤◌, Bool, true, false, cond, leb, List, [], ◌∷◌, length, get_or, take, drop, Ok, Err, sym, refl, ap, ◌∙◌, add-zero, add-one, arith, length-append, length-drop, take_all, drop-cons, drop-drop}
-use Rattle.std.proofs.lemmas.List.{drop_all}
+-- What the byte source hands over, by what comes first.
+use Rattle.std.proofs.Common.{◌≡◌, ℕ, suc, ◌+◌, ◌-◌, ◌≤◌, List, [], ◌∷◌, length, take, drop, Ok, Err, sym, refl, ap, ◌∙◌, add-zero, arith, length-append, length-drop, take_all, drop-drop}
 use Rattle.codepoint.specs.declared.utf8.Decoded.{Decoded}
 use Rattle.codepoint.specs.declared.utf8.Decoded.TheVariants as decodes
 use Rattle.codepoint.specs.Utf8.{decoded, ill_formed_from, ill_formed_then, point_then, points_from}
 use Rattle.codepoint.proofs.Sequences.{decoded_is_encoding}
 use Rattle.codepoint.proofs.Utf8Laws.{encoding_is_not_empty, first_point}
 use Rattle.codepoint.proofs.Decoding.{decoded_is_not_empty}
-use Rattle.refusal.specs.declared.fault.Fault.TheVariants.{OutOfRange, IllFormed}
+use Rattle.refusal.specs.declared.fault.Fault.TheVariants.{IllFormed}
 use Rattle.stream.specs.declared.source.Step.TheVariants.{Point, End}
 use Rattle.stream.specs.Preprocess.{Placed}
-use Rattle.stream.specs.Sources.{Ending, Hands, array_ending, array_points, byte_ending, ending_at}
-use Rattle.stream.specs.Sources.Ending.{stops}
-
--- the array source at index i
-module _ (i : ℕ) (xs : List ℕ) where
-  front : i < length xs → drop i xs ≡ get_or xs i 0 ∷ drop (i + 1) xs
-  front h = rw (add-one, drop-cons xs i 0)
-
-  pub array_at_end : length xs ≤ i → Hands (array_points i (drop i xs)) (array_ending i (drop i xs)) (Ok (End i)) (array_points i (drop i xs)) (array_ending i (drop i xs))
-  array_at_end h = rw (drop_all i xs h) (refl, refl, refl)
-
-  large : (b : Bool) → b ≡ false → (c : ℕ) (r : List Placed) (e : Ending)
-      → Hands (cond b ((c, i) ∷ r) []) (cond b e (stops (OutOfRange i))) (Err (OutOfRange i)) (cond b ((c, i) ∷ r) []) (cond b e (stops (OutOfRange i)))
-  large b q c r e = rw q (refl, refl, refl)
-
-  pub array_at_large : i < length xs → leb (get_or xs i 0) 0x10ffff ≡ false
-      → Hands (array_points i (drop i xs)) (array_ending i (drop i xs)) (Err (OutOfRange i)) (array_points i (drop i xs)) (array_ending i (drop i xs))
-  array_at_large h k = rw (front h) (large (leb (get_or xs i 0) 0x10ffff) k _ _ _)
-
-  point : (b : Bool) → b ≡ true → (c : ℕ) (r : List Placed) (e d : Ending) → Hands (cond b ((c, i) ∷ r) []) (cond b e d) (Ok (Point (c, i))) r e
-  point b q c r e d = rw q (refl, refl, refl)
-
-  pub array_at_point : i < length xs → leb (get_or xs i 0) 0x10ffff ≡ true
-      → Hands (array_points i (drop i xs)) (array_ending i (drop i xs)) (Ok (Point (get_or xs i 0, i))) (array_points (i + 1) (drop (i + 1) xs)) (array_ending (i + 1) (drop (i + 1) xs))
-  array_at_point h k = rw (front h) (point (leb (get_or xs i 0) 0x10ffff) k _ _ _ _)
+use Rattle.stream.specs.Sources.{Ending, Hands, byte_ending, ending_at}
 
 -- a decoded sequence lies within its bytes
 pub decoded_fits : (bs : List ℕ) (c n : ℕ) → decoded bs ≡ decodes.Point c n → n ≤ length bs

@@ -33,15 +33,14 @@ impl Source for ArraySource<'_> {
 
     fn next(&mut self) -> Result<Step, Fault> {
         let place = self.at;
-        if place >= self.numbers.len() {
-            return Ok(Step::End(place));
+        match self.numbers.get(place).copied() {
+            Some(c) if is_code_point(c) => {
+                self.at = place + 1;
+                Ok(Step::Point((c, place)))
+            }
+            Some(_) => Err(Fault::OutOfRange(place)),
+            None => Ok(Step::End(place)),
         }
-        let c = self.numbers[place];
-        if !is_code_point(c) {
-            return Err(Fault::OutOfRange(place));
-        }
-        self.at = place + 1;
-        Ok(Step::Point((c, place)))
     }
 }
 

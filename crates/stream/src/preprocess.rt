@@ -60,7 +60,7 @@ impl<S: Source> Source for Preprocess<S> {
 fn is_plain(c: u32) -> bool
     ensures { result ≡ within 0x0e 0xd7ff c }
 {
-    0x0e <= c && c <= 0xd7ff
+    matches!(c, 0x0e..=0xd7ff)
 }
 
 /// What stands for one code point.

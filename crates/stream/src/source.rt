@@ -18,14 +18,14 @@ pub trait Source {
 
     ghost ending: { Self → Ending };
 
+    /// Hands over the first code point with its place, and only that one leaves; with nothing ahead, tells the
+    /// ending and changes nothing.
+    fn next(&mut self) -> Result<Step, Fault>
+        ensures { Hands (ahead self.old) (ending self.old) result (ahead self.new) (ending self.new) };
+
     // every code point is at most U+10FFFF
     ghost within: { (s : Self) → AllWithin (ahead s) };
 
     // a source ends with no other layer's fault
     ghost sourced: { (s : Self) → FromSource (ending s) };
-
-    /// Hands over the first code point with its place, and only that one leaves; with nothing ahead, tells the
-    /// ending and changes nothing.
-    fn next(&mut self) -> Result<Step, Fault>
-        ensures { Hands (ahead self.old) (ending self.old) result (ahead self.new) (ending self.new) };
 }

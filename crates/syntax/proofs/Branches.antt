@@ -2,6 +2,7 @@
 use Rattle.std.proofs.Common.{◌≡◌, ℕ, Bool, true, false, ◌&&◌, ◌||◌, eqb, List, ◌∷◌, get_or, sym, refl, ap, ◌∙◌, arith}
 use Rattle.std.proofs.lemmas.Bool.Decides.{nat_tests}
 use Rattle.std.proofs.lemmas.Bool.{and_from, both_ways, ne_eqb, or_left, or_right}
+use Rattle.std.proofs.Math.Bool.{and-false}
 use Rattle.codepoint.specs.Classes.{is_digit, is_ident, is_ident_start, is_letter, is_whitespace}
 use Rattle.codepoint.specs.Starts.{is_valid_escape, starts_ident, starts_number}
 use Rattle.syntax.specs.Bodies.{in_comments}
@@ -122,16 +123,8 @@ unfolding starts_ident is_valid_escape is_digit is_ident_start is_letter
 number_starts (digit_first {c} k) = rw (digit_no_start c k, told_apart is_digit c 92 k refl, told_apart is_digit c 45 k refl) refl
 number_starts (dot_digit k) = refl
 number_starts (sign_digit {a} {c} p k) =
-    rw (sign_no_start a p, told_apart is_sign a 92 p refl, digit_no_start c k, told_apart is_digit c 92 k refl, told_apart is_digit c 45 k refl) (none (eqb a 45))
-  where
-    none : (b : Bool) → (b && false) ≡ false
-    none true = refl
-    none false = refl
-number_starts (sign_dot {a} {c} p k) = rw (sign_no_start a p, told_apart is_sign a 92 p refl) (none (eqb a 45))
-  where
-    none : (b : Bool) → (b && false) ≡ false
-    none true = refl
-    none false = refl
+    rw (sign_no_start a p, told_apart is_sign a 92 p refl, digit_no_start c k, told_apart is_digit c 92 k refl, told_apart is_digit c 45 k refl) (and-false (eqb a 45))
+number_starts (sign_dot {a} {c} p k) = rw (sign_no_start a p, told_apart is_sign a 92 p refl) (and-false (eqb a 45))
 
 pub number_counts : {s : List ℕ} → NumberLike s → Counts true s
 unfolding starts_number is_digit

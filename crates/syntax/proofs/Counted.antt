@@ -1,7 +1,8 @@
 -- What is read as a number is one.
-use Rattle.std.proofs.Common.{◌≡◌, ℕ, zero, suc, ◌<◌, Bool, true, false, ◌&&◌, ◌||◌, eqb, List, [], ◌∷◌, ◌++◌, length, get_or, take, drop, sym, refl, ap, ◌∙◌, subst, ⊎_elim, append_assoc, append-nil, arith}
+use Rattle.std.proofs.Common.{◌≡◌, ℕ, ◌<◌, Bool, true, false, ◌&&◌, ◌||◌, eqb, List, [], ◌∷◌, ◌++◌, length, get_or, take, drop, sym, refl, ap, ◌∙◌, subst, ⊎_elim, append_assoc, append-nil, arith}
 use Rattle.std.proofs.lemmas.Bool.Decides.{nat_tests}
 use Rattle.std.proofs.lemmas.Bool.{and_parts, both_ways, cond_both, eqb-true, or_cases}
+use Rattle.std.proofs.lemmas.List.{take-append-drop}
 use Rattle.codepoint.specs.Classes.{is_digit}
 use Rattle.codepoint.specs.Starts.{starts_number}
 use Rattle.syntax.specs.Rules.{gives, leaves, left, out}
@@ -141,11 +142,6 @@ some_digits s f h k = ⊎_elim (λ d. before s d) (λ d. behind d) (or_cases _ _
         let x = no_digit s n in
         rw x.0 (k (rw x.1 d))
 
-front_whole : (n : ℕ) (s : List ℕ) → take n s ++ drop n s ≡ s
-front_whole zero s = refl
-front_whole (suc n) [] = refl
-front_whole (suc n) (c ∷ s) = ap {B = List ℕ} (λ t. c ∷ t) (front_whole n s)
-
 joined : (g d f e s s1 r1 r2 r3 : List ℕ) → g ++ s1 ≡ s → d ++ r1 ≡ s1 → f ++ r2 ≡ r1 → e ++ r3 ≡ r2 → (g ++ (d ++ (f ++ e))) ++ r3 ≡ s
 joined g d f e s s1 r1 r2 r3 a b c k = simp append_assoc (rw (k, c, b) a)
 
@@ -163,7 +159,7 @@ number_found s c =
     let b = exponent_found p.0 p.1 in
     let e : (number_at s).0 ≡ g ++ (d ++ (a.more ++ b.more)) = b.is ∙ ap (λ x. x ++ b.more) a.is ∙ simp append_assoc in (
       subst Numeral (sym e) (parts d w.0 (digits_are s1) a.ok.0 b.ok (some_digits s1 a.more w.1 a.ok.1)),
-      ap (λ x. x ++ (number_at s).1) e ∙ joined g d a.more b.more s s1 (past_digits s1) p.1 (number_at s).1 (front_whole n s) (digits_whole s1) a.whole b.whole,
+      ap (λ x. x ++ (number_at s).1) e ∙ joined g d a.more b.more s s1 (past_digits s1) p.1 (number_at s).1 (take-append-drop n s) (digits_whole s1) a.whole b.whole,
     )
 
 pub number_some : (t : List ℕ) → Numeral t → 0 < length t

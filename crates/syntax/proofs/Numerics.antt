@@ -2,6 +2,7 @@
 use Rattle.std.proofs.Common.{◌≡◌, ℕ, ◌<◌, Bool, true, false, ◌&&◌, ◌||◌, eqb, List, [], ◌∷◌, ◌++◌, length, get_or, take, drop, refl, ap, ◌∙◌, append_assoc, append-nil, arith}
 use Rattle.std.proofs.lemmas.Bool.Decides.{nat_tests}
 use Rattle.std.proofs.lemmas.Bool.{and_left, cond_both, or_from, or_parts}
+use Rattle.std.proofs.Math.Seq.{drop-append_seam, take-append_seam}
 use Rattle.codepoint.specs.Classes.{is_digit, is_ident, is_ident_start, is_letter}
 use Rattle.codepoint.specs.Starts.{is_valid_escape, starts_ident, starts_number}
 use Rattle.syntax.specs.declared.kind.Kind.TheVariants.{Dimension, Number, Percentage}
@@ -37,17 +38,9 @@ no_digit (c ∷ r) h = stops_at (while is_digit) (c ∷ r) (rw (h, while) refl)
 part_of : (t w d r : List ℕ) → Digits d → is_digit (get_or r 0 0) ≡ false → part (length w) t (w ++ (d ++ r)) ≡ (t ++ (w ++ d), r)
 part_of t w d r h n =
     let b = takes_all (while is_digit) r (digits_take d h) (no_digit r n) in
-    let td : take (length w) (w ++ (d ++ r)) ≡ w = take_front w (d ++ r) in
-    let dd : drop (length w) (w ++ (d ++ r)) ≡ d ++ r = drop_front w (d ++ r) in
+    let td : take (length w) (w ++ (d ++ r)) ≡ w = take-append_seam w (d ++ r) in
+    let dd : drop (length w) (w ++ (d ++ r)) ≡ d ++ r = drop-append_seam w (d ++ r) in
     λ i. (t ++ (td i ++ (ap digits dd ∙ b.0) i), (ap past_digits dd ∙ b.1) i)
-  where
-    take_front : (w s : List ℕ) → take (length w) (w ++ s) ≡ w
-    take_front [] s = refl
-    take_front (c ∷ w) s = ap {B = List ℕ} (λ t. c ∷ t) (take_front w s)
-
-    drop_front : (w s : List ℕ) → drop (length w) (w ++ s) ≡ s
-    drop_front [] s = refl
-    drop_front (c ∷ w) s = drop_front w s
 
 -- what may follow a number that ends with the exponent e: no digit, no fraction, and no exponent unless there is one
 record Ends (e r : List ℕ) : Type 0 where

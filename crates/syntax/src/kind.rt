@@ -1,11 +1,8 @@
-// The kinds of tokens, with their numbers.
+//! The kinds of tokens, with their numbers.
 ghost use Rattle.std.specs.Prelude.{◌≡◌};
-ghost use Rattle.syntax.specs.Kinds.{number_of, same_kind};
-ghost use Rattle.std.specs.Cmp.Rules.{comparing};
-ghost use Rattle.std.proofs.Common.{rules};
-ghost use Rattle.std.specs.Cmp as Keys;
+ghost use Rattle.syntax.specs.Kinds.{number_of};
 
-#[derive(Clone, Copy, Eq, Debug)]
+#[derive(Clone, Copy, PartialEq, Eq, Debug)]
 pub enum Kind {
     Ident = 1,
     Function = 2,
@@ -38,15 +35,5 @@ impl Kind {
         ensures { result ≡ number_of self }
     {
         self as u8
-    }
-}
-
-impl PartialEq for Kind {
-    ghost eq = { λ a b. same_kind a b };
-
-    ghost laws = { Keys.partial_equiv_from_equiv (Prim.search (comparing, rules)) };
-
-    fn eq(&self, other: &Kind) -> bool {
-        self.number() == other.number()
     }
 }

@@ -1,11 +1,11 @@
-// The classes of tokens as neighbours: the rows and columns of the adjacency matrix.
+//! The classes of tokens as neighbours: the rows and columns of the adjacency matrix.
 
 #[derive(Clone, Copy, PartialEq, Eq, Debug)]
 pub enum Left {
     Ident,
-    // the identifier `--`
+    /// the identifier `--`
     Dashes,
-    // at-keyword, hash, dimension, `#` and `-`: a name could go on
+    /// at-keyword, hash, dimension, `#` and `-`: a name could go on
     Name,
     Number,
     At,
@@ -18,9 +18,9 @@ pub enum Left {
 
 #[derive(Clone, Copy, PartialEq, Eq, Debug)]
 pub enum Right {
-    // ident, function, url and CDC: they begin as a name does
+    /// ident, function, url and CDC: they begin as a name does
     Name,
-    // number, percentage and dimension
+    /// number, percentage and dimension
     Numeric,
     Hyphen,
     Paren,

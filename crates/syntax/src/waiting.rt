@@ -1,4 +1,4 @@
-// What the tokens so far make a writer wait for.
+//! What the tokens so far make a writer wait for.
 #[derive(Clone, Copy, PartialEq, Eq, Debug)]
 pub enum Waiting {
     Free,

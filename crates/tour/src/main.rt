@@ -2,10 +2,6 @@
 //! refused where it is damaged.
 #![tactic(auto)]
 
-ghost use Rattle.syntax.specs.Tokens.{bare, texted, value_of};
-ghost use Rattle.syntax.specs.declared.kind.Kind.TheVariants.{Ident};
-ghost use Rattle.std.specs.Prelude.{◌≡◌};
-
 mod preprocessing;
 
 use normal::{Compared, compare};
@@ -17,7 +13,7 @@ use std::alloc::{AllocError, Global};
 use stream::{ArraySource, BufferSink, ByteSource, ComparingSink, Sink};
 use syntax::kind::Kind;
 use syntax::token::Token;
-use writer::{Call, Writer};
+use writer::{Call, Counts, Writer};
 
 // A hotel's sheet from an old editor: a media query that rests on a comment, an escape, a url, and CR LF line ends.
 const SHEET: &'static [u8] =
@@ -88,7 +84,7 @@ fn show_normal_form(rt: &HostRuntime) -> anyhow::Result<()> {
     let output = BufferSink::new(rt.alloc(), OUTPUT_CELLS)?;
     let Formed { sink, answer } = normal_form(SHEET, output, &mut cells);
     match answer {
-        Ok((tokens, comments)) => {
+        Ok(Counts { tokens, comments }) => {
             println!(rt; "Normalized: {tokens} tokens, comments between them: {comments}.")?
         }
         Err(fault) => return Ok(println!(rt; "Normalizing was refused: {fault}.")?),
@@ -109,28 +105,6 @@ fn show_bytes(rt: &HostRuntime, bytes: &[u8]) -> anyhow::Result<()> {
     Ok(())
 }
 
-fn sign(kind: Kind) -> Token<'static>
-    ensures { value_of result ≡ bare kind }
-{
-    Token {
-        kind,
-        mark: 0,
-        text: &[],
-        unit: &[],
-    }
-}
-
-fn ident(text: &[u32]) -> Token<'_>
-    ensures { value_of result ≡ texted Ident text.now }
-{
-    Token {
-        kind: Kind::Ident,
-        mark: 0,
-        text,
-        unit: &[],
-    }
-}
-
 // `and` and `x` as code points.
 const AND: &'static [u32] = &[0x61, 0x6e, 0x64];
 
@@ -139,21 +113,21 @@ const X: &'static [u32] = &[0x78];
 /// Two lists of calls that accept the same tokens, by other calls and with other refusals on the way.
 fn compare_calls(rt: &HostRuntime) -> anyhow::Result<()> {
     let puts = [
-        Call::Put(ident(AND)),
-        Call::Put(sign(Kind::OpenRound)),
-        Call::Put(sign(Kind::Whitespace)),
-        Call::Put(sign(Kind::Whitespace)),
-        Call::Put(ident(X)),
-        Call::Put(sign(Kind::CloseRound)),
+        Call::Put(Token::texted(Kind::Ident, AND)),
+        Call::Put(Token::bare(Kind::OpenRound)),
+        Call::Put(Token::bare(Kind::Whitespace)),
+        Call::Put(Token::bare(Kind::Whitespace)),
+        Call::Put(Token::texted(Kind::Ident, X)),
+        Call::Put(Token::bare(Kind::CloseRound)),
         Call::Finish,
     ];
     let blocks = [
-        Call::Put(ident(AND)),
-        Call::Open(sign(Kind::OpenRound)),
-        Call::Put(sign(Kind::Whitespace)),
-        Call::Put(ident(X)),
+        Call::Put(Token::texted(Kind::Ident, AND)),
+        Call::Open(Token::bare(Kind::OpenRound)),
+        Call::Put(Token::bare(Kind::Whitespace)),
+        Call::Put(Token::texted(Kind::Ident, X)),
         Call::Finish,
-        Call::Close(1, 21),
+        Call::Close(1, Kind::OpenRound.number()),
         Call::Finish,
     ];
     let left = BufferSink::new(rt.alloc(), 64)?;
@@ -178,7 +152,7 @@ fn compare_calls(rt: &HostRuntime) -> anyhow::Result<()> {
 fn write_block(rt: &HostRuntime) -> anyhow::Result<()> {
     let mut writer = Writer::new(BufferSink::new(rt.alloc(), 64)?);
     match block(&mut writer) {
-        Ok((tokens, comments)) => {
+        Ok(Counts { tokens, comments }) => {
             println!(rt; "A block: {tokens} tokens, comments between them: {comments}.")?
         }
         Err(fault) => println!(rt; "The block was refused: {fault}.")?,
@@ -186,10 +160,10 @@ fn write_block(rt: &HostRuntime) -> anyhow::Result<()> {
     show_bytes(rt, writer.into_sink().bytes())
 }
 
-fn block<S: Sink>(writer: &mut Writer<S>) -> Result<(usize, usize), Fault> {
-    let slip = writer.open(sign(Kind::OpenCurly))?;
-    let first = writer.put(ident(AND));
-    let second = writer.put(ident(X));
+fn block<S: Sink>(writer: &mut Writer<S>) -> Result<Counts, Fault> {
+    let slip = writer.open(Token::bare(Kind::OpenCurly))?;
+    let first = writer.put(Token::texted(Kind::Ident, AND));
+    let second = writer.put(Token::texted(Kind::Ident, X));
     writer.close(slip)?;
     first?;
     second?;

@@ -1,6 +1,6 @@
 -- A finished run from a new writer has written its accepted tokens. The induction goes forward over the calls, with
 -- what the tokens so far come to; after finish nothing changes, and a stuck writer never finishes.
-use Rattle.std.proofs.Common.{◌≡◌, ℕ, ◌+◌, Bool, true, false, cond, ◌&&◌, List, [], ◌∷◌, ◌++◌, length, drop, is_some, Some, Ok, Err, Option, sym, refl, ap, ◌∙◌, subst, append_assoc, append-nil, arith, length-append}
+use Rattle.std.proofs.Common.{◌≡◌, ℕ, ◌+◌, Bool, true, false, cond, ◌&&◌, ◌⊎◌, List, [], ◌∷◌, ◌++◌, length, drop, is_some, Some, Ok, Err, Option, sym, refl, ap, ◌∙◌, subst, append_assoc, append-nil, arith, length-append, inl, inr}
 use lib.Seq.{drop-append_seam}
 use Rattle.codepoint.specs.Utf8.{bytes_of}
 use Rattle.refusal.specs.declared.fault.Fault.{Fault}
@@ -14,56 +14,53 @@ use Rattle.syntax.specs.Written.{added, written, written_from, written_bytes, co
 use Rattle.syntax.specs.Puts.{left_now, waiting_now, is_whitespace_left, Accepted, MayFollow, PutAddsOneToken, AcceptedMayFinish}
 use Rattle.syntax.specs.Laws.{TestDecidesLawful}
 use Rattle.spelling.proofs.Bytes.{bytes_append, bytes_none}
+use Rattle.writer.specs.declared.blocks.Blocks.{Blocks}
+use Rattle.writer.specs.declared.counts.Counts.{Counts}
+use Rattle.writer.specs.declared.state.State.{State}
 use Rattle.writer.specs.declared.writing.Writer.{Writer}
 use Rattle.writer.specs.Blocks.{mirror}
+use Rattle.writer.specs.Counts.{counts, counts_of}
 use Rattle.writer.specs.States.{Advanced}
 use Rattle.writer.specs.Writes.{bytes_added, Adds, whole, broken, put_refused, put_added, open_refused, opened, open_broken, close_refused, close_added, finish_refused, finished}
 use Rattle.writer.specs.Runs.{Deed, did_put, did_open, did_close, did_finish, accepted, finale, Does, Run, none, more, FinishedRunsWriteTheirTokens}
 use Rattle.writer.proofs.Admitted.{clash, LetsThrough, put_lets_through, open_lets_through, close_lets_through, finish_lets_end}
 
-module _ {S : Type 0} (held : S → List ℕ) (takes : S → ℕ → Bool) where
-  -- after finish every call is refused, and nothing changes
-  ended_step : {w v : Writer S} (d : Deed) (ds : List Deed) → w.state.finished ≡ true → Does held takes w d v → (v ≡ w) × (accepted (d ∷ ds) ≡ accepted ds)
-  ended_step (did_put t r) ds o (put_refused h) = (refl, refl)
-  ended_step {w} (did_put t r) ds o (put_added h a) = clash w.state.finished o (put_lets_through w.state t h).going
-  ended_step (did_open t r) ds o (open_refused h) = (refl, refl)
-  ended_step {w} (did_open t r) ds o (opened h a d k) = clash w.state.finished o (open_lets_through w.state t h).going
-  ended_step {w} (did_open t r) ds o (open_broken h a) = clash w.state.finished o (open_lets_through w.state t h).going
-  ended_step (did_close d k r) ds o (close_refused h) = (refl, refl)
-  ended_step {w} (did_close d k r) ds o (close_added h a) = clash w.state.finished o (close_lets_through w.state d k h).going
-  ended_step (did_finish r) ds o (finish_refused h) = (refl, refl)
-  ended_step {w} (did_finish r) ds o (finished h a b) = clash w.state.finished o (finish_lets_end w.state h).going
+-- after finish, and once the sink refused, nothing is let through
+abbrev Halts : State → Type 0
+Halts s = (s.finished ≡ true) ⊎ (is_some s.stuck ≡ true)
 
-  ended_run : (ds : List Deed) {w u : Writer S} → w.state.finished ≡ true → Run held takes w ds u → (u ≡ w) × (accepted ds ≡ [])
-  ended_run [] o none = (refl, refl)
-  ended_run (d ∷ ds) o (more e r) =
-      let p = ended_step d ds o e in
-      let q = ended_run ds (ap (λ x. x.state.finished) p.0 ∙ o) r in
+shut : {P : Type 0} (s : State) → Halts s → s.finished ≡ false → is_some s.stuck ≡ false → P
+shut s (inl e) going unstuck = clash s.finished e going
+shut s (inr e) going unstuck = clash (is_some s.stuck) e unstuck
+
+barred : {P : Type 0} {s : State} {t : TokenValue} → Halts s → LetsThrough s t → P
+barred {s = s} o l = shut s o l.going l.unstuck
+
+module _ {S : Type 0} (held : S → List ℕ) (takes : S → ℕ → Bool) where
+  -- from then on every call is refused, and nothing changes
+  halted_step : {w v : Writer S} (d : Deed) (ds : List Deed) → Halts w.state → Does held takes w d v → (v ≡ w) × (accepted (d ∷ ds) ≡ accepted ds)
+  halted_step (did_put t r) ds o (put_refused h) = (refl, refl)
+  halted_step {w} (did_put t r) ds o (put_added h a) = barred o (put_lets_through w.state t h)
+  halted_step (did_open t r) ds o (open_refused h) = (refl, refl)
+  halted_step {w} (did_open t r) ds o (opened h b a d k) = barred o (open_lets_through w.state t h)
+  halted_step {w} (did_open t r) ds o (open_broken h b a) = barred o (open_lets_through w.state t h)
+  halted_step (did_close d k r) ds o (close_refused h) = (refl, refl)
+  halted_step {w} (did_close d k r) ds o (close_added h b a) = barred o (close_lets_through w.state d k h)
+  halted_step (did_finish r) ds o (finish_refused h) = (refl, refl)
+  halted_step {w} (did_finish r) ds o (finished h a b) = let l = finish_lets_end w.state h in shut w.state o l.going l.unstuck
+
+  halted_run : (ds : List Deed) {w u : Writer S} → Halts w.state → Run held takes w ds u → (u ≡ w) × (accepted ds ≡ [])
+  halted_run [] o none = (refl, refl)
+  halted_run (d ∷ ds) o (more e r) =
+      let p = halted_step d ds o e in
+      let q = halted_run ds (subst (λ x. Halts x.state) (sym p.0) o) r in
       (q.0 ∙ p.0, p.1 ∙ q.1)
 
-  -- once the sink refused, every call is refused
-  stuck_step : {w v : Writer S} (d : Deed) → is_some w.state.stuck ≡ true → Does held takes w d v → v ≡ w
-  stuck_step (did_put t r) o (put_refused h) = refl
-  stuck_step {w} (did_put t r) o (put_added h a) = clash (is_some w.state.stuck) o (put_lets_through w.state t h).unstuck
-  stuck_step (did_open t r) o (open_refused h) = refl
-  stuck_step {w} (did_open t r) o (opened h a d k) = clash (is_some w.state.stuck) o (open_lets_through w.state t h).unstuck
-  stuck_step {w} (did_open t r) o (open_broken h a) = clash (is_some w.state.stuck) o (open_lets_through w.state t h).unstuck
-  stuck_step (did_close d k r) o (close_refused h) = refl
-  stuck_step {w} (did_close d k r) o (close_added h a) = clash (is_some w.state.stuck) o (close_lets_through w.state d k h).unstuck
-  stuck_step (did_finish r) o (finish_refused h) = refl
-  stuck_step {w} (did_finish r) o (finished h a b) = clash (is_some w.state.stuck) o (finish_lets_end w.state h).unstuck
-
-  stuck_run : (ds : List Deed) {w u : Writer S} → is_some w.state.stuck ≡ true → Run held takes w ds u → u ≡ w
-  stuck_run [] o none = refl
-  stuck_run (d ∷ ds) o (more e r) =
-      let p = stuck_step d o e in
-      stuck_run ds (ap (λ x. is_some x.state.stuck) p ∙ o) r ∙ p
-
   -- so a run that has finished never met a refusing sink
-  broken_never_ends : {P : Type 0} {w v u : Writer S} {d : ℕ} {ks : List ℕ} {g : Fault} (t : TokenValue) (ds : List Deed) → LetsThrough w.state t → u.state.finished ≡ true
-      → Adds held takes w t d ks (Err g) v → Run held takes v ds u → P
+  broken_never_ends : {P : Type 0} {w v u : Writer S} {b : Blocks} {g : Fault} (t : TokenValue) (ds : List Deed) → LetsThrough w.state t → u.state.finished ≡ true
+      → Adds held takes w t b (Err g) v → Run held takes v ds u → P
   broken_never_ends {u = u} t ds l f (broken e a) r =
-      clash u.state.finished f (ap (λ x. x.state.finished) (stuck_run ds (ap is_some a.unstuck) r) ∙ a.going ∙ l.going)
+      clash u.state.finished f (ap (λ x. x.state.finished) (halted_run ds (inr (ap is_some a.unstuck)) r).0 ∙ a.going ∙ l.going)
 
 -- what the tokens ts, accepted since the sink was s, come to in a writer that goes on
 record SoFar {S : Type 0} (held : S → List ℕ) (s : S) (ts : List TokenValue) (w : Writer S) : Type 0 where
@@ -75,10 +72,10 @@ record SoFar {S : Type 0} (held : S → List ℕ) (s : S) (ts : List TokenValue)
   awaits : w.state.waiting ≡ waiting_now ts
 
 -- and at its end
-record AtEnd {S : Type 0} (held : S → List ℕ) (s : S) (ts : List TokenValue) (answer : Option (ℕ × ℕ)) (u : Writer S) : Type 0 where
+record AtEnd {S : Type 0} (held : S → List ℕ) (s : S) (ts : List TokenValue) (answer : Option Counts) (u : Writer S) : Type 0 where
   fit : Fit ts
   wrote : held u.sink ≡ held s ++ written_bytes ts
-  answered : answer ≡ Some (length ts, comments_in ts)
+  answered : answer ≡ Some (counts_of ts)
 
 written_none : written [] ≡ []
 unfolding written written_from
@@ -86,8 +83,8 @@ written_none = refl
 
 module _ (adds_one : PutAddsOneToken) (may-finish : AcceptedMayFinish) (decides : TestDecidesLawful) {S : Type 0} {held : S → List ℕ} {takes : S → ℕ → Bool} where
   -- one token more
-  extended : {s : S} {w v : Writer S} {d : ℕ} {ks : List ℕ} (ts : List TokenValue) (t : TokenValue) → SoFar held s ts w → LetsThrough w.state t
-      → Emits held takes w.sink (bytes_added w.state t) (Ok tt) v.sink → Advanced w.state t d ks v.state → SoFar held s (ts ++ t ∷ []) v
+  extended : {s : S} {w v : Writer S} {b : Blocks} (ts : List TokenValue) (t : TokenValue) → SoFar held s ts w → LetsThrough w.state t
+      → Emits held takes w.sink (bytes_added w.state t) (Ok tt) v.sink → Advanced w.state t b v.state → SoFar held s (ts ++ t ∷ []) v
   extended {s} {w} {v} ts t so l e a =
       let may : MayFollow ts t =
       record {
@@ -114,8 +111,8 @@ module _ (adds_one : PutAddsOneToken) (may-finish : AcceptedMayFinish) (decides 
       }
 
   -- a token that went out whole, and then the rest of the run
-  onward : {s : S} {w v u : Writer S} {d : ℕ} {ks : List ℕ} {n : Option (ℕ × ℕ)} (ts : List TokenValue) (t : TokenValue) (rest : List TokenValue) → SoFar held s ts w
-      → LetsThrough w.state t → Adds held takes w t d ks (Ok tt) v
+  onward : {s : S} {w v u : Writer S} {b : Blocks} {n : Option Counts} (ts : List TokenValue) (t : TokenValue) (rest : List TokenValue) → SoFar held s ts w
+      → LetsThrough w.state t → Adds held takes w t b (Ok tt) v
       → (SoFar held s (ts ++ t ∷ []) v → v.state.finished ≡ false → AtEnd held s ((ts ++ t ∷ []) ++ rest) n u) → AtEnd held s (ts ++ (t ∷ rest)) n u
   onward {s} {u = u} {n = n} ts t rest so l (whole e a) go =
       subst (λ xs. AtEnd held s xs n u) (append_assoc ts (t ∷ []) rest) (go (extended ts t so l e a) (a.going ∙ l.going))
@@ -128,24 +125,24 @@ module _ (adds_one : PutAddsOneToken) (may-finish : AcceptedMayFinish) (decides 
       onward ts t (accepted ds) so (put_lets_through _ t h) a (λ so' g'. through (ts ++ t ∷ []) ds so' g' f r)
   through ts (did_put t (Err y) ∷ ds) so g f (more (put_refused h) r) = through ts ds so g f r
   through ts (did_put t (Err y) ∷ ds) so g f (more (put_added h a) r) = broken_never_ends held takes t ds (put_lets_through _ t h) f a r
-  through ts (did_open t (Ok x) ∷ ds) so g f (more (opened h a d k) r) =
+  through ts (did_open t (Ok x) ∷ ds) so g f (more (opened h b a d k) r) =
       onward ts t (accepted ds) so (open_lets_through _ t h) a (λ so' g'. through (ts ++ t ∷ []) ds so' g' f r)
   through ts (did_open t (Err y) ∷ ds) so g f (more (open_refused h) r) = through ts ds so g f r
-  through ts (did_open t (Err y) ∷ ds) so g f (more (open_broken h a) r) = broken_never_ends held takes t ds (open_lets_through _ t h) f a r
-  through ts (did_close d k (Ok x) ∷ ds) so g f (more (close_added h a) r) =
+  through ts (did_open t (Err y) ∷ ds) so g f (more (open_broken h b a) r) = broken_never_ends held takes t ds (open_lets_through _ t h) f a r
+  through ts (did_close d k (Ok x) ∷ ds) so g f (more (close_added h b a) r) =
       onward ts (mirror k) (accepted ds) so (close_lets_through _ d k h) a (λ so' g'. through (ts ++ mirror k ∷ []) ds so' g' f r)
   through ts (did_close d k (Err y) ∷ ds) so g f (more (close_refused h) r) = through ts ds so g f r
-  through ts (did_close d k (Err y) ∷ ds) so g f (more (close_added h a) r) = broken_never_ends held takes (mirror k) ds (close_lets_through _ d k h) f a r
+  through ts (did_close d k (Err y) ∷ ds) so g f (more (close_added h b a) r) = broken_never_ends held takes (mirror k) ds (close_lets_through _ d k h) f a r
   through ts (did_finish (Err y) ∷ ds) so g f (more (finish_refused h) r) = through ts ds so g f r
   through {s} ts (did_finish (Ok x) ∷ ds) {w} {u} so g f (more (finished h sk a) r) =
-      let after = ended_run held takes ds a.going r in
-      let at_end : AtEnd held s ts (Some (w.state.accepted, w.state.comments)) u =
+      let after = halted_run held takes ds (inl a.going) r in
+      let at_end : AtEnd held s ts (Some (counts w.state.accepted w.state.comments)) u =
       record {
         fit = may-finish.1 ts so.accepts (sym so.awaits ∙ (finish_lets_end w.state h).awaits);
         wrote = ap (λ x. held x.sink) after.0 ∙ ap held sk ∙ so.wrote;
-        answered = ap (λ i. Some (i, w.state.comments)) so.counted ∙ ap (λ j. Some (length ts, j)) so.commented;
+        answered = ap (λ i. Some (counts i w.state.comments)) so.counted ∙ ap (λ j. Some (counts (length ts) j)) so.commented;
       } in
-      subst (λ xs. AtEnd held s xs (Some (w.state.accepted, w.state.comments)) u) (sym (ap (λ xs. ts ++ xs) after.1 ∙ append-nil ts)) at_end
+      subst (λ xs. AtEnd held s xs (Some (counts w.state.accepted w.state.comments)) u) (sym (ap (λ xs. ts ++ xs) after.1 ∙ append-nil ts)) at_end
 
   pub finished_runs_write_their_tokens : FinishedRunsWriteTheirTokens held takes
   finished_runs_write_their_tokens s ds u r =

@@ -1,4 +1,5 @@
 pub mod Blocks
+pub mod Counts
 pub mod Refusals
 pub mod States
 pub mod Writes

@@ -2,12 +2,14 @@
 use Rattle.std.specs.Prelude.{◌≡◌, ℕ, Bool, true, List, [], ◌∷◌, map, length, drop, Some, None, Ok, Err, Option, Result}
 use Rattle.refusal.specs.declared.fault.Fault.{Fault}
 use Rattle.syntax.specs.Tokens.{TokenValue, value_of}
-use Rattle.syntax.specs.Written.{written_bytes, comments_in, Fit}
+use Rattle.syntax.specs.Written.{written_bytes, Fit}
 use Rattle.writer.specs.declared.calls.Call.{Call}
 use Rattle.writer.specs.declared.calls.Call.TheVariants.{Put, Open, Close, Finish}
+use Rattle.writer.specs.declared.counts.Counts.{Counts}
 use Rattle.writer.specs.declared.writing.Writer.{Writer}
 use Rattle.writer.specs.declared.writing.Slip.{Slip}
 use Rattle.writer.specs.Blocks.{mirror}
+use Rattle.writer.specs.Counts.{counts_of}
 use Rattle.writer.specs.Writes.{New, Puts, Opens, Closes, Finishes}
 
 -- a call, by value; a slip by its two numbers
@@ -28,7 +30,7 @@ pub data Deed : Type 0 where
   did_put : TokenValue → Result (Unit {0}) Fault → Deed
   did_open : TokenValue → Result Slip Fault → Deed
   did_close : ℕ → ℕ → Result (Unit {0}) Fault → Deed
-  did_finish : Result (ℕ × ℕ) Fault → Deed
+  did_finish : Result Counts Fault → Deed
 
 abbrev pub asked : Deed → CallValue
 asked (did_put t r) = call_put t
@@ -57,7 +59,7 @@ accepted (did_close d k (Err f) ∷ ds) = accepted ds
 accepted (did_finish r ∷ ds) = accepted ds
 
 -- what the unrefused finish answered
-abbrev pub finale : List Deed → Option (ℕ × ℕ)
+abbrev pub finale : List Deed → Option Counts
 finale [] = None
 finale (did_put t r ∷ ds) = finale ds
 finale (did_open t r ∷ ds) = finale ds
@@ -103,7 +105,7 @@ bytes_beyond held s u = drop (length (held s)) (held u.sink)
 pub record WritesItsTokens {S : Type 0} (held : S → List ℕ) (s : S) (ds : List Deed) (u : Writer S) : Type 0 where
   pub fit : Fit (accepted ds)
   pub bytes : bytes_beyond held s u ≡ written_bytes (accepted ds)
-  pub answer : finale ds ≡ Some (length (accepted ds), comments_in (accepted ds))
+  pub answer : finale ds ≡ Some (counts_of (accepted ds))
 
 abbrev pub FinishedRunsWriteTheirTokens : {S : Type 0} → (S → List ℕ) → (S → ℕ → Bool) → Type 0
 FinishedRunsWriteTheirTokens {S} held takes = (s : S) (ds : List Deed) (u : Writer S) → FinishedRun held takes s ds u → WritesItsTokens held s ds u

@@ -1,15 +1,16 @@
 //! What a state admits, and how it goes on: all by value.
-ghost use Rattle.std.specs.Prelude.{◌≡◌, ◌+◌, ◌<◌, ◌≤◌, not, ◌&&◌, Some, OnOk, nat_lt};
-ghost use Rattle.syntax.specs.Kinds.{is_bad_kind};
+ghost use Rattle.std.specs.Prelude.{◌≡◌, ◌+◌, ◌<◌, ◌≤◌, [], not, ◌&&◌, Ok, IfErr, IfOk, OnOk, nat_lt, Err};
+ghost use Rattle.refusal.specs.Faults.{place_of};
+ghost use Rattle.syntax.specs.Kinds.{is_bad_kind, number_of};
 ghost use Rattle.syntax.specs.Puts.{is_whitespace_left};
 ghost use Rattle.syntax.specs.Tokens.{is_kind, value_of};
 ghost use Rattle.syntax.specs.Turn.{is_in_turn};
 ghost use Rattle.syntax.specs.declared.kind.Kind.TheVariants.{Whitespace};
 ghost use Rattle.writer.specs.Blocks.{is_block_sign, mirror, opens_block};
-ghost use Rattle.writer.specs.Refusals.{close_refusals, finish_refusals, first_of, is_free, is_innermost, open_refusals, put_refusals};
+ghost use Rattle.writer.specs.Refusals.{close_refusals, finish_refusals, first_of, is_free, open_refusals, put_refusals, refusals_of_all};
 ghost use Rattle.writer.specs.States.{Advanced, Ended, Fresh, Stopped};
 
-use crate::comment::is_due;
+use crate::blocks::Blocks;
 use crate::state::State;
 use refusal::Fault;
 use rules::{is_in_turn, is_lawful, left_of, waiting_after};
@@ -21,9 +22,6 @@ use syntax::waiting::Waiting;
 /// Accepted tokens and open blocks together.
 const ROOM: usize = 1_000_000;
 
-/// Open blocks.
-const DEPTH: usize = 32;
-
 impl State {
     pub(crate) fn new() -> State
         ensures { Fresh result }
@@ -31,8 +29,7 @@ impl State {
         State {
             accepted: 0,
             comments: 0,
-            depth: 0,
-            kinds: [0; 32],
+            blocks: Blocks::new(),
             left: Left::Other,
             waiting: Waiting::Free,
             stuck: None,
@@ -42,9 +39,9 @@ impl State {
 
     /// A function or bracket while a block is open.
     fn is_in_block(self, kind: Kind) -> bool
-        ensures { result ≡ (nat_lt 0 self.depth && is_block_sign kind) }
+        ensures { result ≡ (nat_lt 0 self.blocks.depth && is_block_sign kind) }
     {
-        self.depth > 0 && is_block_sign(kind)
+        self.blocks.depth() > 0 && is_block_sign(kind)
     }
 
     fn is_out_of_turn(self, token: Token<'_>) -> bool
@@ -53,28 +50,40 @@ impl State {
         !is_in_turn(self.waiting, token)
     }
 
+    /// Nothing is awaited.
+    fn is_free(self) -> bool
+        ensures { result ≡ is_free self.waiting }
+    {
+        self.waiting == Waiting::Free
+    }
+
     /// Whitespace directly after whitespace.
     fn repeats_whitespace(self, token: Token<'_>) -> bool
         ensures { result ≡ (is_whitespace_left self.left && is_kind Whitespace (value_of token.entry)) }
     {
-        matches!(
-            (self.left, token.kind),
-            (Left::Whitespace, Kind::Whitespace)
-        )
+        self.left == Left::Whitespace && token.kind == Kind::Whitespace
+    }
+
+    /// The refusals of every call, which stand first: after finish, and once the sink refused.
+    fn admit_any(self) -> Result<(), Fault>
+        ensures { result ≡ first_of (refusals_of_all self []) }
+    {
+        if self.finished {
+            return Err(Fault::Finished(self.accepted));
+        }
+        if let Some(at) = self.stuck {
+            return Err(Fault::NotTaken(at));
+        }
+        Ok(())
     }
 
     /// The refusals of put, in order.
     pub(crate) fn admit_put(self, token: Token<'_>) -> Result<(), Fault>
         ensures first { result ≡ first_of (put_refusals self (value_of token.entry)) }
-        ensures room { OnOk result (self.accepted + self.depth < 1000000) }
+        ensures room { OnOk result (self.accepted + self.blocks.depth < 1000000) }
     {
+        self.admit_any()?;
         let place = self.accepted;
-        if self.finished {
-            return Err(Fault::Finished(place));
-        }
-        if let Some(at) = self.stuck {
-            return Err(Fault::NotTaken(at));
-        }
         if is_bad(token.kind) {
             return Err(Fault::BadToken(place));
         }
@@ -90,7 +99,7 @@ impl State {
         if self.repeats_whitespace(token) {
             return Err(Fault::RepeatedWhitespace(place));
         }
-        if self.accepted + self.depth >= ROOM {
+        if self.accepted + self.blocks.depth() >= ROOM {
             return Err(Fault::NoRoom(place));
         }
         Ok(())
@@ -99,106 +108,78 @@ impl State {
     /// The refusals of open, in order.
     pub(crate) fn admit_open(self, token: Token<'_>) -> Result<(), Fault>
         ensures first { result ≡ first_of (open_refusals self (value_of token.entry)) }
-        ensures room { OnOk result (self.accepted + self.depth < 999999) }
-        ensures shallow { OnOk result (self.depth < 32) }
+        ensures room { OnOk result (self.accepted + self.blocks.depth < 999999) }
+        ensures shallow { OnOk result (self.blocks.depth < 32) }
     {
+        self.admit_any()?;
         let place = self.accepted;
-        if self.finished {
-            return Err(Fault::Finished(place));
-        }
-        if let Some(at) = self.stuck {
-            return Err(Fault::NotTaken(at));
-        }
         if !(opens_block(token.kind) && is_lawful(token)) {
             return Err(Fault::Unlawful(place));
         }
         if self.is_out_of_turn(token) {
             return Err(Fault::OutOfTurn(place));
         }
-        if self.depth >= DEPTH {
+        if self.blocks.is_full() {
             return Err(Fault::TooDeep(place));
         }
-        if self.accepted + self.depth + 1 >= ROOM {
+        if self.accepted + self.blocks.depth() + 1 >= ROOM {
             return Err(Fault::NoRoom(place));
         }
         Ok(())
     }
 
-    /// Whether depth and kind are those of the innermost open block.
-    fn is_innermost(self, depth: usize, kind: u8) -> bool
-        ensures { result ≡ is_innermost self depth kind }
+    /// The refusals of close, in order, or else the token that closes the block.
+    pub(crate) fn admit_close(self, depth: usize, kind: u8) -> Result<Token<'static>, Fault>
+        ensures refused { IfErr result (λ f. first_of (close_refusals self depth kind) ≡ Err f) }
+        ensures admitted { OnOk result (first_of (close_refusals self depth kind) ≡ Ok tt) }
+        ensures mirror { IfOk result (λ t. value_of t ≡ mirror kind) }
+        ensures open { OnOk result (0 < self.blocks.depth) }
     {
-        if depth == 0 || depth != self.depth {
-            return false;
-        }
-        kind == self.kinds[depth - 1]
-    }
-
-    /// The refusals of close, in order.
-    pub(crate) fn admit_close(self, depth: usize, kind: u8) -> Result<(), Fault>
-        ensures first { result ≡ first_of (close_refusals self depth kind) }
-        ensures open { OnOk result (0 < self.depth) }
-    {
+        self.admit_any()?;
         let place = self.accepted;
-        if self.finished {
-            return Err(Fault::Finished(place));
-        }
-        if let Some(at) = self.stuck {
-            return Err(Fault::NotTaken(at));
-        }
-        if !self.is_innermost(depth, kind) {
+        let Some(kind) = self.blocks.innermost(depth, kind) else {
             return Err(Fault::WrongSlip(place));
-        }
-        if self.is_out_of_turn(mirror_of(kind)) {
+        };
+        let mirror = mirror_of(kind);
+        if self.is_out_of_turn(mirror) {
             return Err(Fault::OutOfTurn(place));
         }
-        Ok(())
+        Ok(mirror)
     }
 
     /// The refusals of finish, in order.
     pub(crate) fn admit_finish(self) -> Result<(), Fault>
         ensures { result ≡ first_of (finish_refusals self) }
     {
+        self.admit_any()?;
         let place = self.accepted;
-        if self.finished {
-            return Err(Fault::Finished(place));
-        }
-        if let Some(at) = self.stuck {
-            return Err(Fault::NotTaken(at));
-        }
-        if !is_free(self.waiting) {
+        if !self.is_free() {
             return Err(Fault::OutOfTurn(place));
         }
-        if self.depth > 0 {
+        if self.blocks.depth() > 0 {
             return Err(Fault::Unclosed(place));
         }
         Ok(())
     }
 
-    /// The state behind a token that went out whole, with so many blocks open then.
-    pub(crate) fn advanced(self, token: Token<'_>, depth: usize, kinds: [u8; 32]) -> State
-        requires room { self.accepted + 1 + depth ≤ 1000000 }
-        requires shallow { depth ≤ 32 }
-        ensures { Advanced self (value_of token.entry) depth kinds result }
+    /// The state behind a token that went out whole, with these blocks open then.
+    pub(crate) fn advanced(mut self, token: Token<'_>, blocks: Blocks) -> State
+        requires { self.accepted + 1 + blocks.depth ≤ 1000000 }
+        ensures { Advanced self (value_of token.entry) blocks result }
     {
-        let more = if is_due(self.left, token) { 1 } else { 0 };
-        State {
-            accepted: self.accepted + 1,
-            comments: self.comments + more,
-            depth,
-            kinds,
-            left: left_of(token),
-            waiting: waiting_after(self.waiting, token),
-            stuck: self.stuck,
-            finished: self.finished,
-        }
+        self.comments += usize::from(self.owes_comment(token));
+        self.accepted += 1;
+        self.blocks = blocks;
+        self.left = left_of(token);
+        self.waiting = waiting_after(self.waiting, token);
+        self
     }
 
     /// The state after the sink refused a byte.
-    pub(crate) fn stopped(mut self, place: usize) -> State
-        ensures { Stopped self place result }
+    pub(crate) fn stopped(mut self, fault: Fault) -> State
+        ensures { Stopped self (place_of fault) result }
     {
-        self.stuck = Some(place);
+        self.stuck = Some(fault.place());
         self
     }
 
@@ -209,12 +190,6 @@ impl State {
         self.finished = true;
         self
     }
-}
-
-fn is_free(waiting: Waiting) -> bool
-    ensures { result ≡ is_free waiting }
-{
-    matches!(waiting, Waiting::Free)
 }
 
 fn is_bad(kind: Kind) -> bool
@@ -241,19 +216,13 @@ fn is_block_sign(kind: Kind) -> bool
     ) || opens_block(kind)
 }
 
-/// The token that closes a block of the kind with this number.
-pub(crate) fn mirror_of(kind: u8) -> Token<'static>
-    ensures { value_of result ≡ mirror kind }
+/// The token that closes a block of this kind.
+fn mirror_of(kind: Kind) -> Token<'static>
+    ensures { value_of result ≡ mirror (number_of kind) }
 {
-    let kind = match kind {
-        19 => Kind::CloseSquare,
-        23 => Kind::CloseCurly,
+    Token::bare(match kind {
+        Kind::OpenSquare => Kind::CloseSquare,
+        Kind::OpenCurly => Kind::CloseCurly,
         _ => Kind::CloseRound,
-    };
-    Token {
-        kind,
-        mark: 0,
-        text: &[],
-        unit: &[],
-    }
+    })
 }

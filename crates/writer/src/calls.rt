@@ -5,7 +5,7 @@ use syntax::token::Token;
 pub enum Call<'a> {
     Put(Token<'a>),
     Open(Token<'a>),
-    /// Close with a slip of this depth and kind.
+    /// Close with a slip of this depth and kind: any two numbers, since the law speaks of any slip.
     Close(usize, u8),
     Finish,
 }

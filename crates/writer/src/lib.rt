@@ -6,12 +6,16 @@
 #![tactic(auto)]
 
 mod admission;
+mod blocks;
 mod calls;
 mod comment;
+mod counts;
 mod replay;
 mod state;
 mod writing;
 
+pub use blocks::Blocks;
 pub use calls::Call;
+pub use counts::Counts;
 pub use state::State;
 pub use writing::{Slip, Writer};

@@ -1,4 +1,6 @@
 //! Calls given as values and made one after another.
+#![tactic(auto, using(crate::proofs::Replaying::made))]
+
 ghost use Rattle.writer.specs.Runs.{Makes, RunOf, call_of};
 ghost use Rattle.std.specs.Prelude.{map};
 

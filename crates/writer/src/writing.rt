@@ -1,17 +1,19 @@
 //! The writer and its block slips.
+#![tactic(auto, using(crate::proofs::Steps::steps))]
+
 ghost use Rattle.std.specs.Prelude.{◌≡◌, ◌+◌, ◌≤◌};
 ghost use Rattle.syntax.specs.Tokens.{value_of};
 ghost use Rattle.writer.specs.Writes.{Adds, Closes, Finishes, New, Opens, Puts};
 
-use crate::admission::mirror_of;
-use crate::comment::{emit_added, is_due};
+use crate::blocks::Blocks;
+use crate::counts::Counts;
 use crate::state::State;
 use refusal::Fault;
 use stream::Sink;
 use syntax::token::Token;
 
-/// A block slip: the block's depth, from 1, and the number of its kind. A slip of depth 0 is spent, and only such a
-/// one may be let go.
+/// A block slip: the block's depth, from 1, and the number of its kind, two plain numbers as a call gives them. A slip
+/// of depth 0 is spent, and only such a one may be let go.
 pub struct Slip {
     pub(crate) depth: usize,
     pub(crate) kind: u8,
@@ -57,21 +59,19 @@ impl<S: Sink> Writer<S> {
         self.state.finished
     }
 
-    /// Writes the comment if due and the token, and goes on with `depth` open blocks of the kinds `kinds`.
-    fn add(&mut self, token: Token<'_>, depth: usize, kinds: [u8; 32]) -> Result<(), Fault>
-        requires room { self.old.state.accepted + 1 + depth ≤ 1000000 }
-        requires shallow { depth ≤ 32 }
-        ensures { Adds S.Sink.held S.Sink.takes self.old (value_of token.entry) depth kinds result self.new }
+    /// Writes the comment if due and the token, and goes on with these open blocks.
+    fn add(&mut self, token: Token<'_>, blocks: Blocks) -> Result<(), Fault>
+        requires { self.old.state.accepted + 1 + blocks.depth ≤ 1000000 }
+        ensures { Adds S.Sink.held S.Sink.takes self.old (value_of token.entry) blocks result self.new }
     {
         let state = self.state;
-        let due = is_due(state.left, token);
-        match emit_added(&mut self.sink, due, state.waiting, token) {
+        match state.emit_added(&mut self.sink, token) {
             Ok(()) => {
-                self.state = state.advanced(token, depth, kinds);
+                self.state = state.advanced(token, blocks);
                 Ok(())
             }
             Err(fault) => {
-                self.state = state.stopped(fault.place());
+                self.state = state.stopped(fault);
                 Err(fault)
             }
         }
@@ -83,7 +83,7 @@ impl<S: Sink> Writer<S> {
     {
         let state = self.state;
         state.admit_put(token)?;
-        self.add(token, state.depth, state.kinds)
+        self.add(token, state.blocks)
     }
 
     /// Writes a token that opens a block, and gives the slip that closes it.
@@ -92,12 +92,12 @@ impl<S: Sink> Writer<S> {
     {
         let state = self.state;
         state.admit_open(token)?;
-        let kind = token.kind.number();
-        let depth = state.depth + 1;
-        let mut kinds = state.kinds;
-        kinds[state.depth] = kind;
-        self.add(token, depth, kinds)?;
-        Ok(Slip { depth, kind })
+        let blocks = state.blocks.opened(token.kind);
+        self.add(token, blocks)?;
+        Ok(Slip {
+            depth: blocks.depth(),
+            kind: token.kind.number(),
+        })
     }
 
     /// Closes the innermost open block with its slip, which is spent even if this is refused.
@@ -108,17 +108,20 @@ impl<S: Sink> Writer<S> {
         let kind = slip.kind;
         slip.depth = 0;
         let state = self.state;
-        state.admit_close(depth, kind)?;
-        self.add(mirror_of(kind), state.depth - 1, state.kinds)
+        let mirror = state.admit_close(depth, kind)?;
+        self.add(mirror, state.blocks.closed())
     }
 
     /// Ends the writing: answers the numbers of accepted tokens and of comments.
-    pub fn finish(&mut self) -> Result<(usize, usize), Fault>
+    pub fn finish(&mut self) -> Result<Counts, Fault>
         ensures { Finishes S.Sink.held S.Sink.takes self.old result self.new }
     {
         let state = self.state;
         state.admit_finish()?;
         self.state = state.ended();
-        Ok((state.accepted, state.comments))
+        Ok(Counts {
+            tokens: state.accepted,
+            comments: state.comments,
+        })
     }
 }

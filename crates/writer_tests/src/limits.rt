@@ -1,34 +1,42 @@
 // Blocks and tokens up to their limits.
-use crate::tokens::{bare, close, delim};
+use crate::tokens::close;
 use refusal::Fault;
 use std::test::Fail;
 use stream::BufferSink;
 use syntax::kind::Kind;
-use writer::{Call, Writer};
-
-const SQUARE: u8 = 19;
+use syntax::token::Token;
+use writer::{Call, Counts, Writer};
 
 #[test]
 fn thirty_two_blocks(rt: HostRuntime) -> Result<(), Fail> {
     let mut writer = Writer::new(BufferSink::new(rt.alloc(), 66)?);
     for _ in 0..32 {
-        assert_eq!(rt; writer.call(Call::Open(bare(Kind::OpenSquare))), Ok(()));
+        assert_eq!(rt;
+            writer.call(Call::Open(Token::bare(Kind::OpenSquare))),
+            Ok(())
+        );
     }
     assert_eq!(rt;
-        writer.call(Call::Open(bare(Kind::OpenSquare))),
+        writer.call(Call::Open(Token::bare(Kind::OpenSquare))),
         Err(Fault::TooDeep(32))
     );
-    assert_eq!(rt; writer.put(delim(0x5c)), Ok(()));
+    assert_eq!(rt; writer.put(Token::delim(0x5c)), Ok(()));
     // 8 before 11
     assert_eq!(rt;
-        writer.call(Call::Open(bare(Kind::OpenSquare))),
+        writer.call(Call::Open(Token::bare(Kind::OpenSquare))),
         Err(Fault::OutOfTurn(33))
     );
-    assert_eq!(rt; writer.put(bare(Kind::Whitespace)), Ok(()));
+    assert_eq!(rt; writer.put(Token::bare(Kind::Whitespace)), Ok(()));
     for above in 0..32 {
-        assert_eq!(rt; writer.call(close(32 - above, SQUARE)), Ok(()));
+        assert_eq!(rt; writer.call(close(32 - above, Kind::OpenSquare)), Ok(()));
     }
-    assert_eq!(rt; writer.finish(), Ok((66, 0)));
+    assert_eq!(rt;
+        writer.finish(),
+        Ok(Counts {
+            tokens: 66,
+            comments: 0
+        })
+    );
     Ok(())
 }
 
@@ -36,22 +44,34 @@ fn thirty_two_blocks(rt: HostRuntime) -> Result<(), Fail> {
 fn a_million_tokens(rt: HostRuntime) -> Result<(), Fail> {
     let mut writer = Writer::new(BufferSink::new(rt.alloc(), 1_000_000)?);
     for _ in 0..999_998 {
-        assert_eq!(rt; writer.put(bare(Kind::Comma)), Ok(()));
+        assert_eq!(rt; writer.put(Token::bare(Kind::Comma)), Ok(()));
     }
-    assert_eq!(rt; writer.call(Call::Open(bare(Kind::OpenSquare))), Ok(()));
-    // an open block keeps room for its mirror
-    assert_eq!(rt; writer.put(bare(Kind::Comma)), Err(Fault::NoRoom(999_999)));
     assert_eq!(rt;
-        writer.call(Call::Open(bare(Kind::OpenSquare))),
+        writer.call(Call::Open(Token::bare(Kind::OpenSquare))),
+        Ok(())
+    );
+    // an open block keeps room for its mirror
+    assert_eq!(rt;
+        writer.put(Token::bare(Kind::Comma)),
         Err(Fault::NoRoom(999_999))
     );
-    assert_eq!(rt; writer.call(close(1, SQUARE)), Ok(()));
+    assert_eq!(rt;
+        writer.call(Call::Open(Token::bare(Kind::OpenSquare))),
+        Err(Fault::NoRoom(999_999))
+    );
+    assert_eq!(rt; writer.call(close(1, Kind::OpenSquare)), Ok(()));
     // 9 before 4 from the full sink
     assert_eq!(rt;
-        writer.put(bare(Kind::Comma)),
+        writer.put(Token::bare(Kind::Comma)),
         Err(Fault::NoRoom(1_000_000))
     );
-    assert_eq!(rt; writer.finish(), Ok((1_000_000, 0)));
+    assert_eq!(rt;
+        writer.finish(),
+        Ok(Counts {
+            tokens: 1_000_000,
+            comments: 0
+        })
+    );
     Ok(())
 }
 
@@ -59,16 +79,16 @@ fn a_million_tokens(rt: HostRuntime) -> Result<(), Fail> {
 fn whitespace_at_the_limit(rt: HostRuntime) -> Result<(), Fail> {
     let mut writer = Writer::new(BufferSink::new(rt.alloc(), 1_000_000)?);
     for _ in 0..999_999 {
-        assert_eq!(rt; writer.put(bare(Kind::Comma)), Ok(()));
+        assert_eq!(rt; writer.put(Token::bare(Kind::Comma)), Ok(()));
     }
-    assert_eq!(rt; writer.put(bare(Kind::Whitespace)), Ok(()));
+    assert_eq!(rt; writer.put(Token::bare(Kind::Whitespace)), Ok(()));
     // 7 before 9
     assert_eq!(rt;
-        writer.put(bare(Kind::Whitespace)),
+        writer.put(Token::bare(Kind::Whitespace)),
         Err(Fault::RepeatedWhitespace(1_000_000))
     );
     assert_eq!(rt;
-        writer.put(bare(Kind::Comma)),
+        writer.put(Token::bare(Kind::Comma)),
         Err(Fault::NoRoom(1_000_000))
     );
     Ok(())
@@ -78,15 +98,21 @@ fn whitespace_at_the_limit(rt: HostRuntime) -> Result<(), Fail> {
 fn depth_before_room(rt: HostRuntime) -> Result<(), Fail> {
     let mut writer = Writer::new(BufferSink::new(rt.alloc(), 1_000_000)?);
     for _ in 0..32 {
-        assert_eq!(rt; writer.call(Call::Open(bare(Kind::OpenSquare))), Ok(()));
+        assert_eq!(rt;
+            writer.call(Call::Open(Token::bare(Kind::OpenSquare))),
+            Ok(())
+        );
     }
     for _ in 0..999_936 {
-        assert_eq!(rt; writer.put(bare(Kind::Comma)), Ok(()));
+        assert_eq!(rt; writer.put(Token::bare(Kind::Comma)), Ok(()));
     }
-    assert_eq!(rt; writer.put(bare(Kind::Comma)), Err(Fault::NoRoom(999_968)));
+    assert_eq!(rt;
+        writer.put(Token::bare(Kind::Comma)),
+        Err(Fault::NoRoom(999_968))
+    );
     // 11 before 9
     assert_eq!(rt;
-        writer.call(Call::Open(bare(Kind::OpenSquare))),
+        writer.call(Call::Open(Token::bare(Kind::OpenSquare))),
         Err(Fault::TooDeep(999_968))
     );
     Ok(())
@@ -96,15 +122,15 @@ fn depth_before_room(rt: HostRuntime) -> Result<(), Fail> {
 fn room_before_the_sink(rt: HostRuntime) -> Result<(), Fail> {
     let mut writer = Writer::new(BufferSink::new(rt.alloc(), 999_999)?);
     for _ in 0..999_999 {
-        assert_eq!(rt; writer.put(bare(Kind::Comma)), Ok(()));
+        assert_eq!(rt; writer.put(Token::bare(Kind::Comma)), Ok(()));
     }
     // 9 before 4 from the full sink
     assert_eq!(rt;
-        writer.call(Call::Open(bare(Kind::OpenSquare))),
+        writer.call(Call::Open(Token::bare(Kind::OpenSquare))),
         Err(Fault::NoRoom(999_999))
     );
     assert_eq!(rt;
-        writer.put(bare(Kind::Comma)),
+        writer.put(Token::bare(Kind::Comma)),
         Err(Fault::NotTaken(999_999))
     );
     Ok(())

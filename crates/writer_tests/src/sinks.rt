@@ -3,7 +3,7 @@ use crate::tokens::ident;
 use refusal::Fault;
 use std::test::Fail;
 use stream::BufferSink;
-use writer::Writer;
+use writer::{Counts, Writer};
 
 #[test]
 fn comment_cut_at_each_byte(rt: HostRuntime) -> Result<(), Fail> {
@@ -39,7 +39,13 @@ fn whole_comment_is_counted(rt: HostRuntime) -> Result<(), Fail> {
     let mut writer = Writer::new(BufferSink::new(rt.alloc(), 6)?);
     assert_eq!(rt; writer.put(ident(&[0x61])), Ok(()));
     assert_eq!(rt; writer.put(ident(&[0x62])), Ok(()));
-    assert_eq!(rt; writer.finish(), Ok((2, 1)));
+    assert_eq!(rt;
+        writer.finish(),
+        Ok(Counts {
+            tokens: 2,
+            comments: 1
+        })
+    );
     let sink = writer.into_sink();
     assert_eq!(rt; sink.bytes(), b"a/**/b".as_slice());
     Ok(())

@@ -6,7 +6,7 @@ pub returns-in-empty : goal.returns-in-empty
 returns-in-empty c = sym (slice_empty c.args.bytes.now (search rules))
 
 pub returns-in-len1-up : goal.returns-in-len1-up
-returns-in-len1-up c = sym (slice_one c.args.bytes.now (search rules) c.if-a-le127.true)
+returns-in-len1-up c = let e = slice_one c.args.bytes.now (search rules) c.if-a-le127.true in let f = c.from.ensures in cc
 
 pub returns-in-len1-up-2 : goal.returns-in-len1-up-2
 returns-in-len1-up-2 c =

@@ -15,5 +15,5 @@ returns g c =
     c.new-reader.ensures c.transfer-answer.ensures in
     record {
       normalizes = record { first = c.new-writer.result; new = c.new-writer.ensures; transfers = transfers };
-      refusals = only_these_refusals g.S.Sink.held g.S.Sink.takes ahead ending (g.P.Source.within c.args.source) c.transfer-answer.result c.new-writer.ensures.fresh transfers;
+      refusals = only_these_refusals g.S.Sink.held g.S.Sink.takes ahead ending (g.met.P.Source.within c.args.source) c.transfer-answer.result c.new-writer.ensures.fresh transfers;
     }

@@ -1,37 +1,34 @@
+use Rattle.std.proofs.Common.{◌≡◌, Err, sym, ◌∙◌}
 use Rattle.std.proofs.lemmas.Result.{err_from_is_err_and}
-use Rattle.reader.proofs.Answered.{ended_answers, end_told, fault_told, none_left, two_left, outgrown_answers, far_answers, near_end_answers, near_fault_answers}
+use Rattle.reader.proofs.Answered.{ended_answers, end_told, fault_told, told_at_zero, outgrown_answers, token_answers, fault_answers}
 use Rattle.reader.proofs.answering.answer_next.Goals as goal
 
-pub ending-requires : goal.ending-requires
-ending-requires g c =
-    none_left _ _ _ c.peek-seen.ensures.same c.peek-seen.ensures.ends c.if-seen-eq-EOF.true
+pub unwrap-requires : goal.unwrap-requires
+unwrap-requires g c =
+    rw (told_at_zero _ _ _ _ c.peek-seen.ensures.same c.peek-seen.ensures.ends c.if-seen-eq-EOF.true c.ending.ensures.told)
 
 pub returns-in_err-end : goal.returns-in_err-end
 returns-in_err-end g c =
     let p = err_from_is_err_and c.from_residual.result c.from_residual.ensures.1 in
-    rw (p.1, p.2) (ended_answers (g.L.Lookahead.rest c.args.input.now) (g.L.Lookahead.rest c.skip_comments.new.input) (g.L.Lookahead.rest c.peek-seen.new.self) (g.L.Lookahead.rest c.ending.new.self) c.args.cells.now c.peek-seen.result _ c.skip_comments.ensures c.peek-seen.ensures.same c.peek-seen.ensures.ends c.if-seen-eq-EOF.true c.in_err-end.ensures.same (fault_told c.in_err-end.field-0.0 (g.L.Lookahead.rest c.peek-seen.new.self).ending c.in_err-end.ensures.told))
+    let told = told_at_zero _ _ _ _ c.peek-seen.ensures.same c.peek-seen.ensures.ends c.if-seen-eq-EOF.true c.ending.ensures.told in
+    rw (p.1, p.2) (ended_answers (g.L.Lookahead.rest c.args.input.now) (g.L.Lookahead.rest c.skip_comments.new.input) (g.L.Lookahead.rest c.peek-seen.new.self) (g.L.Lookahead.rest c.ending.new.self) c.args.cells.now c.peek-seen.result _ c.skip_comments.ensures c.peek-seen.ensures.same c.peek-seen.ensures.ends c.if-seen-eq-EOF.true c.ending.ensures.same (fault_told _ c.in_err-end.field-0.0 (g.L.Lookahead.rest c.peek-seen.new.self).ending told c.in_err-end.ensures))
 
 pub returns-then-seen-eq-EOF : goal.returns-then-seen-eq-EOF
 returns-then-seen-eq-EOF g c =
-    ended_answers (g.L.Lookahead.rest c.args.input.now) _ _ _ _ _ _ c.skip_comments.ensures c.peek-seen.ensures.same c.peek-seen.ensures.ends c.if-seen-eq-EOF.true c.in_ok-end.ensures.same (end_told _ _ c.in_ok-end.ensures.told)
+    let told = told_at_zero _ _ _ _ c.peek-seen.ensures.same c.peek-seen.ensures.ends c.if-seen-eq-EOF.true c.ending.ensures.told in
+    ended_answers (g.L.Lookahead.rest c.args.input.now) _ _ _ _ _ _ c.skip_comments.ensures c.peek-seen.ensures.same c.peek-seen.ensures.ends c.if-seen-eq-EOF.true c.ending.ensures.same (end_told _ _ _ told c.in_ok-end.ensures)
 
-pub returns-then-outgrown : goal.returns-then-outgrown
-returns-then-outgrown g c =
-    outgrown_answers (g.L.Lookahead.rest c.args.input.now) _ _ _ _ _ _ _ c.skip_comments.ensures c.peek-seen.ensures.same c.peek-seen.ensures.seen c.if-seen-eq-EOF.false c.read_token-read.ensures _ c.peek-behind.ensures.same c.if-outgrown.true
+pub returns-in_err-token : goal.returns-in_err-token
+returns-in_err-token g c =
+    let refused : c.locate.result ≡ Err c.in_err-token.field-0.0 = c.in_err-token.was in
+    let p = err_from_is_err_and c.from_residual-in_err-token.result c.from_residual-in_err-token.ensures.1 in
+    rw (p.1, p.2) (outgrown_answers (g.L.Lookahead.rest c.args.input.now) _ _ _ _ _ _ _ c.skip_comments.ensures c.peek-seen.ensures.same c.peek-seen.ensures.seen c.if-seen-eq-EOF.false c.read_token-read.ensures _ c.locate.ensures.fits c.locate.ensures.outgrown _ refused)
 
-pub returns-then-behind-ne-EOF : goal.returns-then-behind-ne-EOF
-returns-then-behind-ne-EOF g c =
-    far_answers (g.L.Lookahead.rest c.args.input.now) _ _ _ _ _ _ _ c.skip_comments.ensures c.peek-seen.ensures.same c.peek-seen.ensures.seen c.if-seen-eq-EOF.false c.read_token-read.ensures _ _ _ c.peek-behind.ensures.same c.peek-behind.ensures.seen c.peek-behind.ensures.ends c.if-outgrown.false c.locate.ensures c.if-behind-ne-EOF.true
-
-pub ending-requires-2 : goal.ending-requires-2
-ending-requires-2 g c =
-    two_left _ _ _ c.peek-behind.ensures.same c.peek-behind.ensures.ends c.if-behind-ne-EOF.false
-
-pub returns-in_err-ending : goal.returns-in_err-ending
-returns-in_err-ending g c =
-    let p = err_from_is_err_and c.from_residual-in_err-ending.result c.from_residual-in_err-ending.ensures.1 in
-    rw (p.1, p.2) (near_fault_answers (g.L.Lookahead.rest c.args.input.now) _ _ _ _ _ _ _ c.skip_comments.ensures c.peek-seen.ensures.same c.peek-seen.ensures.seen c.if-seen-eq-EOF.false c.read_token-read.ensures _ _ _ c.peek-behind.ensures.same c.peek-behind.ensures.seen c.peek-behind.ensures.ends c.if-outgrown.false c.locate.ensures _ c.in_err-ending.field-0.0 c.if-behind-ne-EOF.false c.in_err-ending.ensures.same c.in_err-ending.ensures.told)
+pub returns-in_err-transpose : goal.returns-in_err-transpose
+returns-in_err-transpose g c =
+    let p = err_from_is_err_and c.from_residual-in_err-transpose.result c.from_residual-in_err-transpose.ensures.1 in
+    rw (p.1, p.2) (fault_answers (g.L.Lookahead.rest c.args.input.now) _ _ _ _ _ _ _ c.skip_comments.ensures c.peek-seen.ensures.same c.peek-seen.ensures.seen c.if-seen-eq-EOF.false c.read_token-read.ensures _ c.locate.ensures.fits c.locate.ensures.outgrown _ c.in_ok-token.was _ c.ending-2.ensures.same _ c.ending-2.ensures.told c.in_err-transpose.field-0.0 (sym c.in_err-transpose.was ∙ c.transpose.ensures))
 
 pub returns : goal.returns
 returns g c =
-    near_end_answers (g.L.Lookahead.rest c.args.input.now) _ _ _ _ _ _ _ c.skip_comments.ensures c.peek-seen.ensures.same c.peek-seen.ensures.seen c.if-seen-eq-EOF.false c.read_token-read.ensures _ _ _ c.peek-behind.ensures.same c.peek-behind.ensures.seen c.peek-behind.ensures.ends c.if-outgrown.false c.locate.ensures _ _ c.if-behind-ne-EOF.false c.in_ok-ending.ensures.same c.in_ok-ending.ensures.told
+    token_answers (g.L.Lookahead.rest c.args.input.now) _ _ _ _ _ _ _ c.skip_comments.ensures c.peek-seen.ensures.same c.peek-seen.ensures.seen c.if-seen-eq-EOF.false c.read_token-read.ensures _ c.locate.ensures.fits c.locate.ensures.outgrown _ c.in_ok-token.was _ c.ending-2.ensures.same _ c.ending-2.ensures.told _ (sym c.in_ok-transpose.was ∙ c.transpose.ensures)

@@ -1,10 +1,6 @@
 use Rattle.std.proofs.Common.{sym}
-use Rattle.reader.proofs.Textual.{at_keyword, at_sign}
+use Rattle.reader.proofs.Textual.{at_sign}
 use Rattle.reader.proofs.texts.read_at.Goals as goal
-
-pub returns-then-starts_ident : goal.returns-then-starts_ident
-returns-then-starts_ident g c =
-    at_keyword _ _ _ c.peek-seen.ensures.same c.peek-seen.ensures.seen _ _ _ _ (sym c.if-starts_ident.ensures) c.read_name.ensures
 
 pub returns : goal.returns
 returns g c =

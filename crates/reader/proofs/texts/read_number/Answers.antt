@@ -8,8 +8,8 @@ returns-then-starts_ident g c =
 
 pub returns-then-seen-eq37 : goal.returns-then-seen-eq37
 returns-then-seen-eq37 g c =
-    percentage _ _ _ _ _ _ _ c.collect_number-text.ensures c.peek-seen.ensures.same c.peek-seen.ensures.seen _ (sym c.if-starts_ident.ensures) c.if-seen-eq37.true c.bump.ensures
+    percentage _ _ _ _ _ _ _ c.collect_number-text.ensures c.peek-seen.ensures.same c.peek-seen.ensures.seen _ (sym c.if-starts_ident.ensures) c.if-seen-eq37.true c.bump.ensures _ c.texted.ensures
 
 pub returns : goal.returns
 returns g c =
-    plain_number _ _ _ _ _ _ _ c.collect_number-text.ensures c.peek-seen.ensures.same c.peek-seen.ensures.seen (sym c.if-starts_ident.ensures) c.if-seen-eq37.false
+    plain_number _ _ _ _ _ _ _ c.collect_number-text.ensures c.peek-seen.ensures.same c.peek-seen.ensures.seen (sym c.if-starts_ident.ensures) c.if-seen-eq37.false _ c.texted-2.ensures

@@ -1,14 +1,10 @@
-use Rattle.reader.proofs.Textual.{url_ended, url_closed, url_is_bad}
+use Rattle.reader.proofs.Textual.{url_closed, url_is_bad}
 use Rattle.reader.proofs.texts.read_url.Goals as goal
-
-pub returns-then-seen-eq-EOF : goal.returns-then-seen-eq-EOF
-returns-then-seen-eq-EOF g c =
-    url_ended _ _ _ _ _ _ _ _ c.collect_url-text.ensures c.skip_whitespace.ensures c.peek-seen.ensures.same c.peek-seen.ensures.seen c.peek-seen.ensures.ends c.if-seen-eq-EOF.true
 
 pub returns-then-seen-eq41 : goal.returns-then-seen-eq41
 returns-then-seen-eq41 g c =
-    url_closed _ _ _ _ _ _ _ _ c.collect_url-text.ensures c.skip_whitespace.ensures c.peek-seen.ensures.same c.peek-seen.ensures.seen c.peek-seen.ensures.ends _ c.if-seen-eq41.true c.bump.ensures
+    url_closed _ _ _ _ _ _ _ _ c.collect_url-text.ensures c.skip_whitespace.ensures c.peek-seen.ensures.same c.peek-seen.ensures.seen c.peek-seen.ensures.ends _ c.then-seen-eq41.either c.bump.ensures _ c.texted.ensures
 
 pub returns : goal.returns
 returns g c =
-    url_is_bad _ _ _ _ _ _ _ _ c.collect_url-text.ensures c.skip_whitespace.ensures c.peek-seen.ensures.same c.peek-seen.ensures.seen c.peek-seen.ensures.ends _ _ c.if-seen-eq-EOF.false c.if-seen-eq41.false c.skip_remnants.ensures c.bump-2.ensures
+    url_is_bad _ _ _ _ _ _ _ _ c.collect_url-text.ensures c.skip_whitespace.ensures c.peek-seen.ensures.same c.peek-seen.ensures.seen c.peek-seen.ensures.ends _ _ c.if-seen-eq-EOF.false c.if-seen-eq41.false c.skip_remnants.ensures c.bump-2.ensures _ c.texted-2.ensures

@@ -1,18 +1,12 @@
-use Rattle.std.proofs.Common.{sym, refl, ◌∙◌}
+use Rattle.std.proofs.Common.{◌||◌, refl, ◌∙◌, rules, tests}
+use Rattle.std.specs.List.{list_any}
+use Rattle.std.proofs.lemmas.Iterator.{YieldsList-from_slice}
+use Rattle.std.proofs.lemmas.Iterator.Search.{any_from_yields_List}
+use Rattle.std.proofs.lemmas.List.Recursion.{same_from_clauses}
 use Rattle.syntax.specs.Numbers.{is_e, has_exponent}
-use Rattle.rules.proofs.Searches.{found_here, not_here, nowhere}
 use Rattle.spelling.proofs.text.has_exponent.Goals as goal
-
-pub returns-then-is_e : goal.returns-then-is_e
-returns-then-is_e c =
-    found_here is_e has_exponent refl (λ d ds. refl) c.args.number.now c.loop-c.c-index c.loop-c-test.true (sym c.is_e.ensures ∙ c.if-is_e.true)
-    ∙ sym c.loop-c.invariant
-
-pub loop-c-preserved : goal.loop-c-preserved
-loop-c-preserved c =
-    c.loop-c.invariant
-    ∙ not_here is_e has_exponent refl (λ d ds. refl) c.args.number.now c.loop-c.c-index c.loop-c-test.true (sym c.is_e.ensures ∙ c.if-is_e.false)
 
 pub returns : goal.returns
 returns c =
-    nowhere is_e has_exponent refl (λ d ds. refl) c.args.number.now c.loop-c.c-index c.loop-c-test.false ∙ sym c.loop-c.invariant
+    any_from_yields_List is_e _ _ _ c.any.ensures.ran (YieldsList-from_slice c.args.number.now cc) (λ x b q k. search (rules, tests))
+    ∙ same_from_clauses (list_any is_e) has_exponent (λ d b. is_e d || b) refl (λ d ds. refl) (λ d ds. refl) c.args.number.now

@@ -1,20 +1,45 @@
-use Rattle.std.proofs.Common.{ℕ, ◌<◌, get_or, Ok, refl, ap, ◌∙◌, arith, length-set}
+use Rattle.std.proofs.Common.{refl, ◌∙◌, arith, length-set}
+use Rattle.std.proofs.lemmas.List.{take-set}
 use Rattle.lookahead.specs.Windows.{points_of}
-use Rattle.lookahead.proofs.Chunks.{behind_has_no_zero, first_is_not_zero, handed_point, one_more, same, still_filled}
+use Rattle.lookahead.proofs.Chunks.{ended_at, same, source_has_no_zero, still_ahead, still_no_zero, stopped}
 use Rattle.lookahead.proofs.window.Window.refill.Goals as goal
 
-pub invariant_of-self-in-Point : goal.invariant_of-self-in-Point
-invariant_of-self-in-Point g c =
-    let w = c.loop-i.self in
-    let handed = handed_point (points_of g.S.Source.ahead w.source) _ _ _ c.next.result (c.in-Point.c, c.in-Point.place) (c.in-Ok.is ∙ ap Ok c.in-Point.is) c.next.ensures in
-    let some = first_is_not_zero _ _ (c.in-Point.c, c.in-Point.place) (behind_has_no_zero w.source.after_cr (g.S.Source.ahead w.source.below)) handed.0 in
-    let all : (k : ℕ) → k < c.loop-i.i → 0 < get_or w.codes k 0 = λ k h. w.filled k (omega (arith, c.loop-i.invariant.2)) in
-    record { ordered = omega (arith, c.loop-i.invariant.1); inside = omega arith; filled = still_filled c.loop-i.i w.codes c.in-Point.c (omega (arith, c.loop-i.invariant.3)) some all }
+pub invariant_of-self-clause-filled : goal.invariant_of-self-clause-filled
+invariant_of-self-clause-filled g c =
+    let w = c.args.self.now in
+    let l = c.loop-cell in
+    still_no_zero _ _ _ _ _ _ _ _ _ _ _ w.ordered (omega arith) c.copy_within.ensures.after (omega arith) l.invariant.counted refl l.invariant.handed w.filled (source_has_no_zero g.S.Source.ahead w.source)
 
-pub loop-i-preserved : goal.loop-i-preserved
-loop-i-preserved g c =
-    let w = c.loop-i.self in
-    let inv = c.loop-i.invariant in
-    let handed = handed_point (points_of g.S.Source.ahead w.source) _ _ _ c.next.result (c.in-Point.c, c.in-Point.place) (c.in-Ok.is ∙ ap Ok c.in-Point.is) c.next.ensures in
-    let more = one_more w.at w.end c.loop-i.i w.codes w.places (c.in-Point.c, c.in-Point.place) _ _ inv.1 inv.2 (omega (arith, inv.3)) (omega (arith, inv.4)) handed.0 in
-    (same _ _ more handed.1 ∙ inv.0, inv.1, refl, length-set w.codes _ _ ∙ inv.3, length-set w.places _ _ ∙ inv.4)
+pub invariant_of-self-in-Break-1 : goal.invariant_of-self-in-Break-1
+invariant_of-self-in-Break-1 g c =
+    let w = c.args.self.now in
+    let l = c.loop-cell in
+    record {
+      ordered = omega arith;
+      inside = omega arith;
+      filled = still_no_zero _ _ _ _ _ _ _ _ _ _ _ w.ordered (omega arith) c.copy_within.ensures.after (omega (arith, length-set l.cell-items l.cell-index)) l.invariant.counted (take-set _ _ _) l.invariant.handed w.filled (source_has_no_zero g.S.Source.ahead w.source);
+    }
+
+pub returns-in_err-point-clause-same : goal.returns-in_err-point-clause-same
+returns-in_err-point-clause-same g c =
+    let w = c.args.self.now in
+    let l = c.loop-cell in
+    let told = stopped (points_of g.S.Source.ahead l.source) (points_of g.S.Source.ahead c.next.new.self) _ _ _ c.in_err-point.ensures in
+    same _ _ (still_ahead _ _ _ _ _ _ _ _ _ _ _ w.ordered (omega arith) c.copy_within.ensures.after (omega (arith, length-set l.cell-items l.cell-index)) l.invariant.counted (take-set _ _ _) (rw told.0 l.invariant.handed)) (told.1 ∙ l.invariant.ending)
+
+pub invariant_of-self-in-End-1 : goal.invariant_of-self-in-End-1
+invariant_of-self-in-End-1 g c =
+    let w = c.args.self.now in
+    let l = c.loop-cell in
+    record {
+      ordered = omega arith;
+      inside = omega arith;
+      filled = still_no_zero _ _ _ _ _ _ _ _ _ _ _ w.ordered (omega arith) c.copy_within.ensures.after (omega (arith, length-set l.cell-items l.cell-index)) l.invariant.counted (take-set _ _ _) l.invariant.handed w.filled (source_has_no_zero g.S.Source.ahead w.source);
+    }
+
+pub returns-in-End-clause-same : goal.returns-in-End-clause-same
+returns-in-End-clause-same g c =
+    let w = c.args.self.now in
+    let l = c.loop-cell in
+    let told = ended_at (points_of g.S.Source.ahead l.source) (points_of g.S.Source.ahead c.next.new.self) _ _ _ (rw c.in-End.is at c.in_ok-point.ensures) in
+    same _ _ (still_ahead _ _ _ _ _ _ _ _ _ _ _ w.ordered (omega arith) c.copy_within.ensures.after (omega (arith, length-set l.cell-items l.cell-index)) l.invariant.counted (take-set _ _ _) (rw told.0 l.invariant.handed)) (told.1 ∙ l.invariant.ending)

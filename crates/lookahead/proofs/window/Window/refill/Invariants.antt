@@ -1,9 +1,11 @@
-use Rattle.std.proofs.Common.{◌≡◌, length}
-use Rattle.lookahead.specs.Windows.{ahead_of}
+use Rattle.std.proofs.Common.{◌≡◌, ◌+◌, ◌++◌, take}
+use Rattle.lookahead.specs.Windows.{points_of}
 use Rattle.lookahead.proofs.window.Window.refill.Given as goal
 
--- what is ahead stays the same, and the window is filled up to i
-abbrev pub invariant-loop-i : goal.invariant-loop-i
-invariant-loop-i g l =
-    (ahead_of g.S.Source.ahead g.S.Source.ending l.self ≡ ahead_of g.S.Source.ahead g.S.Source.ending l.initial.self)
-    × (l.self.at ≡ 0) × (l.self.end ≡ l.i) × (length l.self.codes ≡ 66) × (length l.self.places ≡ 66)
+-- the cells written so far hold what the source has handed over since
+abbrev pub invariant-loop-cell : goal.invariant-loop-cell
+invariant-loop-cell g l = record {
+  counted : l.end ≡ l.initial.end + l.cell-index;
+  handed : take l.cell-index l.cell-items ++ points_of g.S.Source.ahead l.source ≡ points_of g.S.Source.ahead l.initial.source;
+  ending : g.S.Source.ending l.source.below ≡ g.S.Source.ending l.initial.source.below;
+}

@@ -1,27 +1,18 @@
-use Rattle.std.proofs.Common.{◌≡◌, ◌+◌, ◌-◌, [], ◌++◌, refl, ap, ◌∙◌, arith}
+use Rattle.std.proofs.Common.{◌≡◌, ◌<◌, length, refl, ap, ◌∙◌, arith}
+use Rattle.std.proofs.lemmas.Bool.Decides.{nat_tests}
 use Rattle.lookahead.specs.Ahead.{past}
-use Rattle.lookahead.specs.Windows.{ahead_of, points_of, run}
-use Rattle.lookahead.proofs.Chunks.{few_are_all, run_at_front, run_passed, same}
+use Rattle.lookahead.specs.Windows.{ahead_of, points_of}
+use Rattle.lookahead.proofs.Chunks.{passed_one, same}
+use Rattle.lookahead.proofs.window.chunk.WindowLookahead.bump.Goals.{then-is_empty, else-is_empty}
 use Rattle.lookahead.proofs.window.chunk.WindowLookahead.bump.Goals as goal
 
-pub returns-then-self : goal.returns-then-self
-returns-then-self g c =
-    let w = c.args.self.now in
-    let one : w.end - (w.at + 1) ≡ w.end - w.at - 1 = omega arith in
-    same _ _ (rw one (run_passed (w.end - w.at) w.at w.codes w.places (points_of g.S.Source.ahead w.source) (omega arith))) refl
-
-pub returns-then-self-2 : goal.returns-then-self-2
-returns-then-self-2 g c =
-    let w = c.refill.new.self in
-    let one : w.end - (w.at + 1) ≡ w.end - w.at - 1 = omega arith in
-    same _ _ (rw one (run_passed (w.end - w.at) w.at w.codes w.places (points_of g.S.Source.ahead w.source) (omega arith))) refl
-    ∙ ap (past 1) c.refill.ensures.same
-
-pub returns-else-self-2 : goal.returns-else-self-2
-unfolding run
-returns-else-self-2 g c =
-    let w = c.refill.new.self in
-    let none : w.end ≡ 0 = omega (arith, c.refill.ensures.front) in
-    let rest : points_of g.S.Source.ahead w.source ≡ [] = few_are_all g.S.Source.ahead g.S.Source.ending w c.refill.result c.refill.ensures.now_so (omega arith) in
-    let list : run (w.end - w.at) w.at w.codes w.places ++ points_of g.S.Source.ahead w.source ≡ [] = rw (rest, run_at_front w.at w.end w.codes w.places c.refill.ensures.front, none) refl in
-    same (ahead_of g.S.Source.ahead g.S.Source.ending w) (past 1 (ahead_of g.S.Source.ahead g.S.Source.ending w)) (rw list refl) refl ∙ ap (past 1) c.refill.ensures.same
+pub returns-then-not-is_empty : goal.returns-then-not-is_empty
+returns-then-not-is_empty g c =
+    let ahead = ahead_of g.S.Source.ahead g.S.Source.ending in
+    let w = c.if-is_empty.self in
+    let still : ahead w ≡ ahead c.args.self.now = elim c.if-is_empty.branch [
+      | then-is_empty b ↦ ap ahead b.self-is ∙ b.refill.ensures.same
+      | else-is_empty b ↦ ap ahead b.self-is
+    ] in
+    let some : 0 < length c.chunk-2.result.now = grind (arith, nat_tests) in
+    same _ _ (passed_one w.points (points_of g.S.Source.ahead w.source) w.at w.end (omega (arith, ap length c.chunk-2.ensures))) refl ∙ ap (past 1) still

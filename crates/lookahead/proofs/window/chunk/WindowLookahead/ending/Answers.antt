@@ -1,25 +1,22 @@
-use Rattle.std.proofs.Common.{◌-◌, ◌≤◌, sym, refl, ap, ◌∙◌, arith}
+use Rattle.std.proofs.Common.{◌<◌, length, sym, ap, ◌∙◌, arith}
 use Rattle.lookahead.specs.Ahead.{ending_in_sight}
-use Rattle.lookahead.specs.Windows.{points_of}
-use Rattle.lookahead.proofs.Chunks.{ending_in_sight_lem, ending_out_of_sight, few_are_all, told_if_few}
+use Rattle.lookahead.specs.Windows.{chunk_of, points_of}
+use Rattle.lookahead.proofs.Chunks.{few_are_all, in_sight, out_of_sight}
 use Rattle.lookahead.proofs.window.chunk.WindowLookahead.ending.Goals as goal
 
-pub returns-then-self-gt2 : goal.returns-then-self-gt2
-returns-then-self-gt2 g c =
+pub returns-then-chunk-ge3-clause-told : goal.returns-then-chunk-ge3-clause-told
+returns-then-chunk-ge3-clause-told g c =
     let w = c.args.self.now in
-    record { same = refl; told = sym (ending_out_of_sight (w.end - w.at) w.at w.codes w.places (points_of g.S.Source.ahead w.source) (g.S.Source.ending w.source.below) (omega arith)) }
+    sym (out_of_sight (chunk_of w) (points_of g.S.Source.ahead w.source) _ (omega (arith, ap length c.chunk.ensures)))
 
-pub returns-then-self-gt2-2 : goal.returns-then-self-gt2-2
-returns-then-self-gt2-2 g c =
+pub returns-then-chunk-lt3-clause-told : goal.returns-then-chunk-lt3-clause-told
+returns-then-chunk-lt3-clause-told g c =
     let w = c.refill-told.new.self in
-    let far = ending_out_of_sight (w.end - w.at) w.at w.codes w.places (points_of g.S.Source.ahead w.source) (g.S.Source.ending w.source.below) (omega (arith, c.refill-told.ensures.front)) in
-    record { same = c.refill-told.ensures.same; told = sym far ∙ ap ending_in_sight c.refill-told.ensures.same }
+    let few : length (chunk_of w) < 3 = omega (arith, ap length c.chunk-2.ensures) in
+    let all = few_are_all g.S.Source.ahead g.S.Source.ending w c.refill-told.result c.refill-told.ensures.now_so few in
+    c.transpose.ensures ∙ all.1 ∙ sym (in_sight (chunk_of w) (points_of g.S.Source.ahead w.source) _ few all.0) ∙ ap ending_in_sight c.refill-told.ensures.same
 
-pub returns : goal.returns
-returns g c =
+pub returns-else-chunk-lt3-clause-told : goal.returns-else-chunk-lt3-clause-told
+returns-else-chunk-lt3-clause-told g c =
     let w = c.refill-told.new.self in
-    let few : w.end ≤ 2 = omega arith in
-    let rest = few_are_all g.S.Source.ahead g.S.Source.ending w c.refill-told.result c.refill-told.ensures.now_so (omega arith) in
-    let near = ending_in_sight_lem (w.end - w.at) w.at w.codes w.places (points_of g.S.Source.ahead w.source) (g.S.Source.ending w.source.below) (omega (arith, c.refill-told.ensures.front)) rest in
-    let told = told_if_few g.S.Source.ahead g.S.Source.ending w c.refill-told.result c.refill-told.ensures.now_so few in
-    record { same = c.refill-told.ensures.same; told = told ∙ sym near ∙ ap ending_in_sight c.refill-told.ensures.same }
+    sym (out_of_sight (chunk_of w) (points_of g.S.Source.ahead w.source) _ (omega (arith, ap length c.chunk-2.ensures))) ∙ ap ending_in_sight c.refill-told.ensures.same

@@ -1,0 +1,68 @@
+//! The one loop: what a rule says turn by turn, done to the input and to the cells.
+ghost use Rattle.lookahead.specs.Ahead.{codes};
+ghost use Rattle.scan.specs.Fills.{Collects};
+ghost use Rattle.scan.specs.Turns.{Says};
+ghost use Rattle.std.specs.Prelude.{ℕ, List};
+ghost use Rattle.syntax.specs.Rules.{Step, beyond, collect};
+
+use crate::escapes::escape;
+use crate::fill::put;
+use codepoint::starts::EOF;
+use lookahead::Lookahead;
+
+/// What a rule says of the next code points.
+pub(crate) enum Turn {
+    /// It ends here.
+    Halt,
+    /// One code point is collected.
+    Take,
+    /// One is passed over.
+    Pass,
+    /// Two are passed over.
+    PassTwo,
+    /// A backslash is passed over, and what its escape gives is collected.
+    Escape,
+}
+
+/// A rule of the syntax that the next two code points decide turn by turn. Every rule ends at the end of the input.
+pub(crate) trait Rule {
+    ghost rule: { Self → List ℕ → Step ℕ };
+
+    /// What it says where `first` comes next and `second` behind that, or `EOF` where nothing does.
+    fn turn(&self, first: u32, second: u32) -> Turn
+        ensures { Says (rule self.now) first second result };
+}
+
+/// What a rule collects goes into the cells, and what it leaves is ahead.
+pub(crate) fn collect<L: Lookahead, R: Rule>(
+    input: &mut L,
+    rule: &R,
+    cells: &mut [u32],
+    mut filled: Option<usize>,
+) -> Option<usize>
+    ensures { Collects cells.old filled (L.Lookahead.rest input.old) (collect (R.Rule.rule rule.now) (codes (L.Lookahead.rest input.old))) (beyond (R.Rule.rule rule.now) (codes (L.Lookahead.rest input.old))) cells.new result (L.Lookahead.rest input.new) }
+{
+    loop {
+        let seen = input.peek();
+        if seen.first == EOF {
+            return filled;
+        }
+        match rule.turn(seen.first, seen.second) {
+            Turn::Halt => return filled,
+            Turn::Take => {
+                input.bump();
+                filled = put(cells, filled, seen.first);
+            }
+            Turn::Pass => input.bump(),
+            Turn::PassTwo => {
+                input.bump();
+                input.bump();
+            }
+            Turn::Escape => {
+                input.bump();
+                let c = escape(input);
+                filled = put(cells, filled, c);
+            }
+        }
+    }
+}

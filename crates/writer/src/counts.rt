@@ -1,0 +1,8 @@
+//! What finish answers.
+
+/// The numbers of accepted tokens and of comments between them.
+#[derive(Clone, Copy, PartialEq, Eq, Debug)]
+pub struct Counts {
+    pub tokens: usize,
+    pub comments: usize,
+}
