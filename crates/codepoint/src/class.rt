@@ -2,8 +2,8 @@
 ghost use Rattle.codepoint.specs.Classes.{ClassNumber, hex_value_if_any, is_digit, is_hex_digit, is_ident, is_ident_start, is_letter, is_newline, is_non_printable, is_whitespace};
 ghost use Rattle.std.specs.Prelude.{◌≡◌};
 
-// Classes are numbers, and no enum, by a rule of the project: one table of 256 of them, checked entry by entry. Of the
-// signs with a token kind of their own, the class number is that kind's.
+// Classes are numbers, and no enum, by a rule of the project: one table of 256 of them, held to the rule by one
+// computation. Of the signs with a token kind of their own, the class number is that kind's.
 pub const NEWLINE: u8 = 1;
 
 pub const BLANK: u8 = 2;

@@ -120,6 +120,7 @@ pub fn encode(c: u32) -> Encoded
     }
 }
 
+// The casts to `u8` are proved to lose nothing; `try_from` would answer an error that cannot come.
 fn encode_scalar(c: u32) -> Encoded
     requires { c ≤ 0x10ffff }
     ensures { take result.len result.bytes ≡ scalar_bytes c }

@@ -17,8 +17,9 @@ use Rattle.syntax.specs.Reading.Next.{token}
 use Rattle.syntax.specs.Extents.{before, taken, taken_at, collected, collected_at}
 use Rattle.lookahead.specs.declared.ahead.Peek.{Peek}
 use Rattle.lookahead.specs.Ahead.{Ahead, EndsAtZero, Left, codes, ending_in_sight, past, peeked}
-use Rattle.scan.specs.Fills.{laid}
-use Rattle.scan.proofs.Cells.{filled_words, laid_words}
+use Rattle.scan.specs.declared.cells.Cells.{Cells}
+use Rattle.scan.specs.Fills.{empty, filled, laid}
+use Rattle.scan.proofs.Filling.{filled_words, laid_words}
 use Rattle.scan.proofs.States.{same, past_past, length_codes}
 use Rattle.reader.specs.declared.answer.Located.{Located}
 use Rattle.reader.specs.declared.answer.Next.{Next}
@@ -113,7 +114,7 @@ given_length : (b : Bool) (t : List ℕ) → cond b 0 (length t) ≡ length (con
 given_length true t = refl
 given_length false t = refl
 
-module _ (v s1 sl : Ahead) (c0 c1 : List ℕ) (s2 : Ahead) (w : Peek) (read : Read) (k : Left v (past_comments (codes v)) s1) (l : sl ≡ s1) (seen : w ≡ peeked s1.list) (z : w.first ≡ 0 → ⊥) (a : Reads c0 sl (found_from (codes sl)) c1 read s2) where
+module _ (v s1 sl : Ahead) (c0 : List ℕ) (d0 d1 : Cells) (s2 : Ahead) (w : Peek) (read : Read) (all : Option ℕ) (k : Left v (past_comments (codes v)) s1) (l : sl ≡ s1) (seen : w ≡ peeked s1.list) (z : w.first ≡ 0 → ⊥) (now : d0.cells.now ≡ c0) (none : d0.filled ≡ empty) (a : Reads d0 sl (found_from (codes sl)) d1 read s2) (all_is : all ≡ d1.filled) (c1 : List ℕ) (returned : c1 ≡ d1.cells.now) where
   abbrev here : Found
   here = found_from (past_comments (codes v))
 
@@ -123,8 +124,8 @@ module _ (v s1 sl : Ahead) (c0 c1 : List ℕ) (s2 : Ahead) (w : Peek) (read : Re
   there : get_or (past_comments (codes v)) 0 0 ≡ 0 → ⊥
   there y = z (sym (first_shown s1 _ w k.rest_is seen) ∙ y)
 
-  reads : Reads c0 sl here c1 read s2
-  reads = subst (λ x. Reads c0 sl (found_from x) c1 read s2) codes_are a
+  reads : Reads d0 sl here d1 read s2
+  reads = subst (λ x. Reads d0 sl (found_from x) d1 read s2) codes_are a
 
   start_is : s1 ≡ past (before (codes v)) v
   unfolding before
@@ -147,22 +148,22 @@ module _ (v s1 sl : Ahead) (c0 c1 : List ℕ) (s2 : Ahead) (w : Peek) (read : Re
   text_so : length (collected (codes v)) ≤ length c0 → read.text ≡ Some (length here.text)
   text_so h =
       let n = length_is in
-      reads.text_is ∙ filled_words (length c0) here.text ∙ cond-false _ _ _ (le-ltb (length c0) (length here.text) (omega arith))
+      reads.text_is none ∙ ap (λ x. filled (length x) empty here.text) now ∙ filled_words (length c0) here.text ∙ cond-false _ _ _ (le-ltb (length c0) (length here.text) (omega arith))
 
-  all_so : read.all ≡ cond (ltb (length c0) (length (collected (codes v)))) None (Some (length (collected (codes v))))
-  all_so = reads.all_is.fill ∙ filled_words (length c0) _ ∙ ap (λ x. cond (ltb (length c0) (length x)) None (Some (length x))) (sym (collected_found (codes v) there))
+  all_so : all ≡ cond (ltb (length c0) (length (collected (codes v)))) None (Some (length (collected (codes v))))
+  all_so = all_is ∙ reads.all_is.fill ∙ (λ i. filled (length (now i)) (none i) (here.text ++ here.unit)) ∙ filled_words (length c0) _ ∙ ap (λ x. cond (ltb (length c0) (length x)) None (Some (length x))) (sym (collected_found (codes v) there))
 
   -- whatever the answer is, the cells and what is left
   answers : (r : Result Next Fault) (s3 : Ahead) → r ≡ answered (length c0) v (token (token_of here) here.rest) → s3 ≡ s2 → Answers v c0 r c1 s3
   answers r s3 e m = record {
     answer = e ∙ ap (answered (length c0) v) (sym (next_found (codes v) there));
-    cells = reads.all_is.cells ∙ laid_words c0 _ ∙ ap (overwritten c0) (sym (collected_found (codes v) there));
+    cells = returned ∙ reads.all_is.cells ∙ (λ i. laid (now i) (none i) (here.text ++ here.unit)) ∙ laid_words c0 _ ∙ ap (overwritten c0) (sym (collected_found (codes v) there));
     left = m ∙ left_is;
   }
 
   module _ (g : Result Located Fault)
-      (fits : (n m : ℕ) → read.text ≡ Some n → read.all ≡ Some m → g ≡ Ok (record { kind = read.kind; mark = read.mark; text = cond (is_bad_kind read.kind) 0 n; unit = m - n; place = w.place }))
-      (outgrown : read.all ≡ None → g ≡ Err (Outgrown w.place)) where
+      (fits : (n m : ℕ) → read.text ≡ Some n → all ≡ Some m → g ≡ Ok (record { kind = read.kind; mark = read.mark; text = cond (is_bad_kind read.kind) 0 n; unit = m - n; place = w.place }))
+      (outgrown : all ≡ None → g ≡ Err (Outgrown w.place)) where
     given : Located
     given = located (place_of v) (token_of here)
 

@@ -16,14 +16,15 @@ use Rattle.syntax.specs.Bodies.{in_extra_whitespace, is_quote, past_whitespace}
 use Rattle.syntax.specs.Reading.{is_url, quote_comes, url_at, url_or_function, end_name, ident_like_at}
 use Rattle.lookahead.specs.declared.ahead.Peek.{Peek}
 use Rattle.lookahead.specs.Ahead.{Ahead, Left, codes, past, peeked}
-use Rattle.scan.specs.Fills.{Collects, empty, filled, laid}
-use Rattle.scan.proofs.States.{Gives, given_first, turn_out, turn_left, stop_out, stop_left, past_one, past_past, codes_past, left_all, left_said, left_then}
-use Rattle.scan.proofs.Turns.{collects_then}
+use Rattle.scan.specs.declared.cells.Cells.{Cells}
+use Rattle.scan.specs.Fills.{Collects}
+use Rattle.scan.proofs.States.{Gives, given_first, turn_out, turn_left, stop_out, stop_left, past_one, past_past, codes_past, left_all, left_then}
+use Rattle.scan.proofs.Turns.{collects_then, collects_said}
 use Rattle.scan.proofs.Arms.{name_one, name_escape, name_stop}
 use Rattle.reader.specs.declared.held.Held.{Held}
 use Rattle.reader.specs.declared.read.Read.{Read}
 use Rattle.reader.specs.Reads.{Reads, opens_quote, texted_read}
-use Rattle.reader.specs.Holding.{Begun, Holding, held_text}
+use Rattle.reader.specs.Holding.{Begun, Holding, Puts, held_text}
 use Rattle.reader.proofs.Textual.{said, read_behind, textual, first_shown, left_stays, left_bumps}
 
 -- one code point of an identifier
@@ -82,20 +83,23 @@ paren_stops b = (refl, refl)
 url_has_three : (t : List ℕ) → is_url t ≡ true → length t ≡ 3
 url_has_three t h = grind (arith, nat_tests)
 
+-- what is put into cells, while so much of the input was passed over
+puts_collect : {c c' : Cells} {w w' : Ahead} {t r : List ℕ} → Puts c t c' → Left w r w' → Collects c w t r c' w'
+puts_collect p e = record { cells = p.cells; fill = p.fill; same_cells = p.same_cells; left = e }
+
 -- behind `(`
-module _ (h : Held) (s : Ahead) (c0 : List ℕ) (s1 sl : Ahead) (w : Peek) (k : Left s (beyond in_extra_whitespace (codes s)) s1) (l : sl ≡ s1) (seen : w ≡ peeked s1.list) where
+module _ (h : Held) (s : Ahead) (c0 : Cells) (s1 sl : Ahead) (w : Peek) (k : Left s (beyond in_extra_whitespace (codes s)) s1) (l : sl ≡ s1) (seen : w ≡ peeked s1.list) where
   tests : quote_comes (beyond in_extra_whitespace (codes s)) ≡ opens_quote w.first w.second
   unfolding opens_quote
   tests = sym (ap (λ (t : Peek). is_quote t.first || (is_whitespace t.first && is_quote t.second)) seen ∙ ap quote_comes k.rest_is)
 
-  pub url_function : (c1 : List ℕ) (f1 : Option ℕ) → opens_quote w.first w.second ≡ true → c1 ≡ laid c0 empty (held_text h) → f1 ≡ filled (length c0) empty (held_text h) → (d : Read) → d ≡ texted_read Function f1 → Reads c0 s (url_or_function (held_text h) (beyond in_extra_whitespace (codes s))) c1 d sl
+  pub url_function : (c1 : Cells) (n : Option ℕ) → opens_quote w.first w.second ≡ true → Puts c0 (held_text h) c1 → n ≡ c1.filled → (d : Read) → d ≡ texted_read Function n → Reads c0 s (url_or_function (held_text h) (beyond in_extra_whitespace (codes s))) c1 d sl
   unfolding url_or_function
-  url_function c1 f1 t c f d is =
+  url_function c1 n t p f d is =
       let u = tests ∙ t in
-      let a : Collects c0 empty s (held_text h) (codes s) c1 f1 s = record { cells = c; fill = f; left = left_all s s refl } in
-      rw (u, url_or_function) (textual Function a (beyond in_extra_whitespace (codes s)) sl (left_stays k sl l) d is)
+      rw (u, url_or_function) (textual Function (puts_collect p (left_all s s refl)) f (beyond in_extra_whitespace (codes s)) sl (left_stays k sl l) d is)
 
-  pub url_body : (c1 : List ℕ) (r : Read) (s2 s3 : Ahead) → opens_quote w.first w.second ≡ false → Left sl (past_whitespace (codes sl)) s2 → Reads c0 s2 (url_at (codes s2)) c1 r s3 → Reads c0 s (url_or_function (held_text h) (beyond in_extra_whitespace (codes s))) c1 r s3
+  pub url_body : (c1 : Cells) (r : Read) (s2 s3 : Ahead) → opens_quote w.first w.second ≡ false → Left sl (past_whitespace (codes sl)) s2 → Reads c0 s2 (url_at (codes s2)) c1 r s3 → Reads c0 s (url_or_function (held_text h) (beyond in_extra_whitespace (codes s))) c1 r s3
   unfolding url_or_function
   url_body c1 r s2 s3 t e a =
       let u = tests ∙ t in
@@ -106,7 +110,7 @@ module _ (h : Held) (s : Ahead) (c0 : List ℕ) (s1 sl : Ahead) (w : Peek) (k : 
 
 -- the whole token
 module _ (s : Ahead) (h : Held) (s1 sl : Ahead) (w : Peek) (a : Holding s h s1) (l : sl ≡ s1) (seen : w ≡ peeked s1.list) where
-  pub ident_url : (c0 c1 : List ℕ) (r : Read) (s2 s3 : Ahead) → true ≡ (eqb w.first 40 && is_url (held_text h)) → s2 ≡ past 1 sl → Reads c0 s2 (url_or_function (held_text h) (beyond in_extra_whitespace (codes s2))) c1 r s3 → Reads c0 s (ident_like_at (codes s)) c1 r s3
+  pub ident_url : (c0 c1 : Cells) (r : Read) (s2 s3 : Ahead) → true ≡ (eqb w.first 40 && is_url (held_text h)) → s2 ≡ past 1 sl → Reads c0 s2 (url_or_function (held_text h) (beyond in_extra_whitespace (codes s2))) c1 r s3 → Reads c0 s (ident_like_at (codes s)) c1 r s3
   unfolding ident_like_at end_name
   ident_url c0 c1 r s2 s3 y e b =
       let y' = and_parts (eqb w.first 40) (is_url (held_text h)) (sym y) in
@@ -132,41 +136,33 @@ module _ (s : Ahead) (h : Held) (s1 sl : Ahead) (w : Peek) (a : Holding s h s1) 
             absurd (n (sym (first_shown s1 _ w refl seen) ∙ ap (λ x. get_or x 0 0) (sym r-is) ∙ z) (ap is_url (sym t) ∙ u))
       ] refl
 
-  module _ (c0 c1 c2 : List ℕ) (f1 f2 : Option ℕ) (s2 s3 : Ahead) (v : Peek) (n : false ≡ (eqb w.first 40 && is_url (held_text h))) (c : c1 ≡ laid c0 empty (held_text h)) (f : f1 ≡ filled (length c0) empty (held_text h)) (b : Collects c1 f1 sl (collect in_ident (codes sl)) (beyond in_ident (codes sl)) c2 f2 s2) (l2 : s3 ≡ s2) (seen2 : v ≡ peeked s2.list) where
-    whole : Collects c0 empty s (collect in_ident (codes s)) (beyond in_ident (codes s)) c2 f2 s2
+  module _ (c0 c1 c2 : Cells) (s2 s3 : Ahead) (v : Peek) (other : false ≡ (eqb w.first 40 && is_url (held_text h))) (p : Puts c0 (held_text h) c1) (b : Collects c1 sl (collect in_ident (codes sl)) (beyond in_ident (codes sl)) c2 s2) (l2 : s3 ≡ s2) (seen2 : v ≡ peeked s2.list) (n : Option ℕ) (f : n ≡ c2.filled) where
+    whole : Collects c0 s (collect in_ident (codes s)) (beyond in_ident (codes s)) c2 s2
     whole =
-        let x : Collects c0 empty s (held_text h) (codes sl) c1 f1 sl = record { cells = c; fill = f; left = record { count = a.held_count; passed = l ∙ a.held_past; rest_is = refl } } in
-        let y = collects_then x b in
         let t : held_text h ++ collect in_ident (codes sl) ≡ collect in_ident (codes s) = ap (λ q. held_text h ++ collect in_ident (codes q)) l ∙ sym a.given_so in
-        record {
-          cells = y.cells ∙ ap (laid c0 empty) t;
-          fill = y.fill ∙ ap (filled (length c0) empty) t;
-          left = left_said (ap (λ q. beyond in_ident (codes q)) l ∙ a.left_as) y.left;
-        }
+        let begun : Left s (codes sl) sl = record { count = a.held_count; passed = l ∙ a.held_past; rest_is = refl } in
+        collects_said refl t (ap (λ q. beyond in_ident (codes q)) l ∙ a.left_as) (collects_then (puts_collect p begun) b)
 
-    pub ident_function : (s4 : Ahead) → v.first ≡ 40 → s4 ≡ past 1 s3 → (d : Read) → d ≡ texted_read Function f2 → Reads c0 s (ident_like_at (codes s)) c2 d s4
+    pub ident_function : (s4 : Ahead) → v.first ≡ 40 → s4 ≡ past 1 s3 → (d : Read) → d ≡ texted_read Function n → Reads c0 s (ident_like_at (codes s)) c2 d s4
     unfolding ident_like_at end_name
     ident_function s4 z e d is =
         let h = first_shown s2 _ v whole.left.rest_is seen2 ∙ z in
         let k : eqb (get_or (beyond in_ident (codes s)) 0 0) left_paren ≡ true = eq-eqb _ 40 h in
-        let u = not_url (λ y i. both_ways _ (sym n) (and_from _ _ (eq-eqb _ 40 y) i)) h in
-        rw (k, u, end_name) (textual Function whole (drop 1 (beyond in_ident (codes s))) s4 (left_bumps whole.left s3 s4 l2 e) d is)
+        let u = not_url (λ y i. both_ways _ (sym other) (and_from _ _ (eq-eqb _ 40 y) i)) h in
+        rw (k, u, end_name) (textual Function whole f (drop 1 (beyond in_ident (codes s))) s4 (left_bumps whole.left s3 s4 l2 e) d is)
 
-    pub ident_plain : (v.first ≡ 40 → ⊥) → (d : Read) → d ≡ texted_read Ident f2 → Reads c0 s (ident_like_at (codes s)) c2 d s3
+    pub ident_plain : (v.first ≡ 40 → ⊥) → (d : Read) → d ≡ texted_read Ident n → Reads c0 s (ident_like_at (codes s)) c2 d s3
     unfolding ident_like_at end_name
     ident_plain z d is =
         let k : eqb (get_or (beyond in_ident (codes s)) 0 0) left_paren ≡ false = ne_eqb _ 40 (λ y. z (sym (first_shown s2 _ v whole.left.rest_is seen2) ∙ y)) in
-        rw (k, end_name) (textual Ident whole (beyond in_ident (codes s)) s3 (left_stays whole.left s3 l2) d is)
+        rw (k, end_name) (textual Ident whole f (beyond in_ident (codes s)) s3 (left_stays whole.left s3 l2) d is)
 
 -- what is held, put into cells
 nowhere : Ahead
 nowhere = record { list = []; ending = ends 0 }
 
-pub held_put : (c0 c1 c2 c3 : List ℕ) (f1 f2 f3 : Option ℕ) (x y z : List ℕ) → c1 ≡ laid c0 empty x → f1 ≡ filled (length c0) empty x → c2 ≡ laid c1 f1 y → f2 ≡ filled (length c1) f1 y → c3 ≡ laid c2 f2 z → f3 ≡ filled (length c2) f2 z → (c3 ≡ laid c0 empty (x ++ (y ++ z))) × (f3 ≡ filled (length c0) empty (x ++ (y ++ z)))
-held_put c0 c1 c2 c3 f1 f2 f3 x y z a b c d e f =
-    let w = nowhere in
-    let p : Collects c0 empty w x (codes w) c1 f1 w = record { cells = a; fill = b; left = left_all w w refl } in
-    let q : Collects c1 f1 w y (codes w) c2 f2 w = record { cells = c; fill = d; left = left_all w w refl } in
-    let r : Collects c2 f2 w z (codes w) c3 f3 w = record { cells = e; fill = f; left = left_all w w refl } in
-    let t = collects_then p (collects_then q r) in
-    (t.cells, t.fill)
+pub held_put : {c0 c1 c2 c3 : Cells} {x y z : List ℕ} → Puts c0 x c1 → Puts c1 y c2 → Puts c2 z c3 → Puts c0 (x ++ (y ++ z)) c3
+held_put p q r =
+    let stays = left_all nowhere nowhere refl in
+    let t = collects_then (puts_collect p stays) (collects_then (puts_collect q stays) (puts_collect r stays)) in
+    record { cells = t.cells; fill = t.fill; same_cells = t.same_cells }

@@ -9,15 +9,16 @@ use Rattle.syntax.specs.Points.{exclamation, number_sign, hyphen, less_than, gre
 use Rattle.syntax.specs.Bodies.{is_quote}
 use Rattle.syntax.specs.Reading.{Found, found, found_bare, found_at, ident_comes, name_at, sign_kind}
 use Rattle.lookahead.specs.Ahead.{Ahead}
+use Rattle.scan.specs.declared.cells.Cells.{Cells}
 use Rattle.scan.specs.Fills.{Collects, empty, filled}
 use Rattle.reader.specs.declared.read.Read.{Read}
 
--- the text, then the unit, go into the cells from the first on
-pub record Reads (cells0 : List ℕ) (w : Ahead) (f : Found) (cells' : List ℕ) (r : Read) (w' : Ahead) : Type 0 where
+-- the text, then the unit, go into the cells; of cells that were empty it is told how many the text fills
+pub record Reads (c : Cells) (w : Ahead) (f : Found) (c' : Cells) (r : Read) (w' : Ahead) : Type 0 where
   pub kind_is : r.kind ≡ f.kind
   pub mark_is : r.mark ≡ f.mark
-  pub text_is : r.text ≡ filled (length cells0) empty f.text
-  pub all_is : Collects cells0 empty w (f.text ++ f.unit) f.rest cells' r.all w'
+  pub text_is : c.filled ≡ empty → r.text ≡ filled (length c.cells.now) empty f.text
+  pub all_is : Collects c w (f.text ++ f.unit) f.rest c' w'
 
 -- the token at the front of a list
 abbrev pub found_from : List ℕ → Found
@@ -25,11 +26,11 @@ found_from s = found_at (slice_index s 0) (drop 1 s)
 
 -- what is read without a text
 abbrev pub bare_read : Kind → ℕ → Read
-bare_read k m = record { kind = k; mark = m; text = empty; all = empty }
+bare_read k m = record { kind = k; mark = m; text = empty }
 
--- with a text, and no unit
+-- with a text
 abbrev pub texted_read : Kind → Option ℕ → Read
-texted_read k t = record { kind = k; mark = 0; text = t; all = t }
+texted_read k t = record { kind = k; mark = 0; text = t }
 
 abbrev pub sign_read : ℕ → Read
 sign_read c = cond (same_kind (sign_kind c) Delim) (bare_read Delim c) (bare_read (sign_kind c) 0)

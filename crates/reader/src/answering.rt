@@ -10,7 +10,7 @@ use crate::tokens::read_token;
 use codepoint::starts::EOF;
 use lookahead::Lookahead;
 use refusal::Fault;
-use scan::skip_comments;
+use scan::{Cells, skip_comments};
 use syntax::kind::Kind;
 
 /// The next token, the end or a refusal.
@@ -24,19 +24,20 @@ pub fn answer_next<L: Lookahead>(input: &mut L, cells: &mut [u32]) -> Result<Nex
         let end = input.ending().unwrap()?;
         return Ok(Next::End(end));
     }
-    let read = read_token(input, cells);
-    let token = locate(read, seen.place)?;
+    let mut cells = Cells::new(cells);
+    let read = read_token(input, &mut cells);
+    let token = locate(read, cells.filled(), seen.place)?;
     // A fault fewer than three code points ahead takes the token's place.
     input.ending().transpose()?;
     Ok(Next::Token(token))
 }
 
 /// A token as it is given, of a bad one no text; or the refusal of one that outgrew the cells.
-fn locate(read: Read, place: usize) -> Result<Located, Fault>
-    ensures fits { (n m : ℕ) → read.text ≡ Some n → read.all ≡ Some m → result ≡ Ok (record { kind = read.kind; mark = read.mark; text = (if is_bad_kind read.kind then 0 else n); unit = m - n; place = place }) }
-    ensures outgrown { read.all ≡ None → result ≡ Err (Outgrown place) }
+fn locate(read: Read, all: Option<usize>, place: usize) -> Result<Located, Fault>
+    ensures fits { (n m : ℕ) → read.text ≡ Some n → all ≡ Some m → result ≡ Ok (record { kind = read.kind; mark = read.mark; text = (if is_bad_kind read.kind then 0 else n); unit = m - n; place = place }) }
+    ensures outgrown { all ≡ None → result ≡ Err (Outgrown place) }
 {
-    let (Some(text), Some(all)) = (read.text, read.all) else {
+    let (Some(text), Some(all)) = (read.text, all) else {
         return Err(Fault::Outgrown(place));
     };
     Ok(Located {

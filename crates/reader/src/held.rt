@@ -1,12 +1,10 @@
 //! The first code points of a name, held back until it is known whether the name goes into the cells.
-ghost use Rattle.reader.specs.Holding.{held_text};
+ghost use Rattle.reader.specs.Holding.{Puts, held_text};
 ghost use Rattle.std.specs.Option.{option_to_list};
-ghost use Rattle.scan.specs.Fills.{empty, filled, laid};
 ghost use Rattle.syntax.specs.Reading.{is_url};
-ghost use Rattle.std.specs.Prelude.{◌≡◌, ◌&&◌, length, ◌==◌};
+ghost use Rattle.std.specs.Prelude.{◌≡◌, ◌&&◌, ◌==◌};
 
-use crate::read::EMPTY;
-use scan::put;
+use scan::Cells;
 
 /// Up to three code points, as many as `url` has: in fixed memory, since the reader never allocates.
 #[derive(Clone, Copy)]
@@ -32,23 +30,20 @@ fn is_url(held: Held) -> bool
     )
 }
 
-/// What is held, into the first cells.
-pub fn put_held(cells: &mut [u32], held: Held) -> Option<usize>
-    ensures cells { cells.new ≡ laid cells.old empty (held_text held) }
-    ensures fill { result ≡ filled (length cells.old) empty (held_text held) }
+/// What is held, into the next cells.
+pub fn put_held(cells: &mut Cells<'_>, held: Held)
+    ensures { Puts cells.old (held_text held) cells.new }
 {
-    let one = put_some(cells, EMPTY, held.first);
-    let two = put_some(cells, one, held.second);
-    put_some(cells, two, held.third)
+    put_some(cells, held.first);
+    put_some(cells, held.second);
+    put_some(cells, held.third);
 }
 
 #[tactic(auto, unfolding(scan::specs::Fills::filled, scan::specs::Fills::laid))]
-fn put_some(cells: &mut [u32], so_far: Option<usize>, c: Option<u32>) -> Option<usize>
-    ensures cells { cells.new ≡ laid cells.old so_far (option_to_list c) }
-    ensures fill { result ≡ filled (length cells.old) so_far (option_to_list c) }
+fn put_some(cells: &mut Cells<'_>, c: Option<u32>)
+    ensures { Puts cells.old (option_to_list c) cells.new }
 {
-    match c {
-        Some(c) => put(cells, so_far, c),
-        None => so_far,
+    if let Some(c) = c {
+        cells.put(c);
     }
 }

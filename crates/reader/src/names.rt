@@ -12,11 +12,11 @@ use crate::read::Read;
 use crate::texts::read_url;
 use codepoint::class::is_ident;
 use lookahead::Lookahead;
-use scan::{collect_name, escape, skip_extra_whitespace, skip_whitespace};
+use scan::{Cells, collect_name, escape, skip_extra_whitespace, skip_whitespace};
 use syntax::kind::Kind;
 
 /// The name of a url or a bad url goes into no cell, so its first code points are held back, escapes resolved.
-pub fn read_ident_like<L: Lookahead>(input: &mut L, cells: &mut [u32]) -> Read
+pub fn read_ident_like<L: Lookahead>(input: &mut L, cells: &mut Cells<'_>) -> Read
     ensures { Reads cells.old (L.Lookahead.rest input.old) (ident_like_at (codes (L.Lookahead.rest input.old))) cells.new result (L.Lookahead.rest input.new) }
 {
     let held = hold(input);
@@ -25,25 +25,25 @@ pub fn read_ident_like<L: Lookahead>(input: &mut L, cells: &mut [u32]) -> Read
         input.bump();
         return read_url_or_function(input, held, cells);
     }
-    let begun = put_held(cells, held);
-    let text = collect_name(input, cells, begun);
+    put_held(cells, held);
+    collect_name(input, cells);
     let then = input.peek();
     if then.first == 0x28 {
         input.bump();
-        return Read::texted(Kind::Function, text);
+        return Read::texted(Kind::Function, cells.filled());
     }
-    Read::texted(Kind::Ident, text)
+    Read::texted(Kind::Ident, cells.filled())
 }
 
 /// Behind the `(` of a function named url: the function where a quote comes, else a url.
-fn read_url_or_function<L: Lookahead>(input: &mut L, held: Held, cells: &mut [u32]) -> Read
+fn read_url_or_function<L: Lookahead>(input: &mut L, held: Held, cells: &mut Cells<'_>) -> Read
     ensures { Reads cells.old (L.Lookahead.rest input.old) (url_or_function (held_text held) (beyond in_extra_whitespace (codes (L.Lookahead.rest input.old)))) cells.new result (L.Lookahead.rest input.new) }
 {
     skip_extra_whitespace(input);
     let seen = input.peek();
     if opens_quote(seen) {
-        let text = put_held(cells, held);
-        return Read::texted(Kind::Function, text);
+        put_held(cells, held);
+        return Read::texted(Kind::Function, cells.filled());
     }
     skip_whitespace(input);
     read_url(input, cells)

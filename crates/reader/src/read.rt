@@ -4,17 +4,13 @@ ghost use Rattle.std.specs.Prelude.{◌≡◌};
 
 use syntax::kind::Kind;
 
-/// A token, and how many cells are filled behind its text and behind its unit: none, once something found no cell.
+/// A token, and how many cells its text fills, of cells that were empty: none, once something found no cell.
 #[derive(Clone, Copy)]
 pub struct Read {
     pub kind: Kind,
     pub mark: u32,
     pub text: Option<usize>,
-    pub all: Option<usize>,
 }
-
-/// No cell is filled yet.
-pub const EMPTY: Option<usize> = Some(0);
 
 impl Read {
     /// A token without a text.
@@ -24,12 +20,11 @@ impl Read {
         Read {
             kind,
             mark,
-            text: EMPTY,
-            all: EMPTY,
+            text: Some(0),
         }
     }
 
-    /// A token with a text, and no unit.
+    /// A token with a text.
     pub fn texted(kind: Kind, text: Option<usize>) -> Read
         ensures { result ≡ texted_read kind text }
     {
@@ -37,7 +32,6 @@ impl Read {
             kind,
             mark: 0,
             text,
-            all: text,
         }
     }
 

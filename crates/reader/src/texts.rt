@@ -3,42 +3,42 @@ ghost use Rattle.reader.specs.Reads.{Reads, at_found, hash_found};
 ghost use Rattle.lookahead.specs.Ahead.{codes};
 ghost use Rattle.syntax.specs.Reading.{name_at, numeric_at, string_at, url_at};
 
-use crate::read::{EMPTY, Read};
+use crate::read::Read;
 use codepoint::starts::EOF;
 use lookahead::Lookahead;
 use scan::{
-    collect_name, collect_number, collect_string, collect_url, skip_remnants, skip_whitespace,
+    Cells, collect_name, collect_number, collect_string, collect_url, skip_remnants,
+    skip_whitespace,
 };
 use syntax::kind::Kind;
 
 /// A string, from behind its quote.
-pub fn read_string<L: Lookahead>(input: &mut L, quote: u32, cells: &mut [u32]) -> Read
+pub fn read_string<L: Lookahead>(input: &mut L, quote: u32, cells: &mut Cells<'_>) -> Read
     ensures { Reads cells.old (L.Lookahead.rest input.old) (string_at quote (codes (L.Lookahead.rest input.old))) cells.new result (L.Lookahead.rest input.new) }
 {
-    let text = collect_string(input, quote, cells, EMPTY);
+    collect_string(input, quote, cells);
     let seen = input.peek();
     if seen.first == 0x0a {
-        return Read::texted(Kind::BadString, text);
+        return Read::texted(Kind::BadString, cells.filled());
     }
     input.bump();
-    Read::texted(Kind::QuotedString, text)
+    Read::texted(Kind::QuotedString, cells.filled())
 }
 
 /// A token whose text is an identifier.
-pub fn read_name<L: Lookahead>(input: &mut L, kind: Kind, mark: u32, cells: &mut [u32]) -> Read
+pub fn read_name<L: Lookahead>(input: &mut L, kind: Kind, mark: u32, cells: &mut Cells<'_>) -> Read
     ensures { Reads cells.old (L.Lookahead.rest input.old) (name_at kind mark (codes (L.Lookahead.rest input.old))) cells.new result (L.Lookahead.rest input.new) }
 {
-    let text = collect_name(input, cells, EMPTY);
+    collect_name(input, cells);
     Read {
         kind,
         mark,
-        text,
-        all: text,
+        text: cells.filled(),
     }
 }
 
 /// A hash, from behind its `#`.
-pub fn read_hash<L: Lookahead>(input: &mut L, cells: &mut [u32]) -> Read
+pub fn read_hash<L: Lookahead>(input: &mut L, cells: &mut Cells<'_>) -> Read
     ensures { Reads cells.old (L.Lookahead.rest input.old) (hash_found (codes (L.Lookahead.rest input.old))) cells.new result (L.Lookahead.rest input.new) }
 {
     let seen = input.peek();
@@ -47,7 +47,7 @@ pub fn read_hash<L: Lookahead>(input: &mut L, cells: &mut [u32]) -> Read
 }
 
 /// From behind `@`: an at-keyword, or the sign.
-pub fn read_at<L: Lookahead>(input: &mut L, cells: &mut [u32]) -> Read
+pub fn read_at<L: Lookahead>(input: &mut L, cells: &mut Cells<'_>) -> Read
     ensures { Reads cells.old (L.Lookahead.rest input.old) (at_found (codes (L.Lookahead.rest input.old))) cells.new result (L.Lookahead.rest input.new) }
 {
     let seen = input.peek();
@@ -58,19 +58,15 @@ pub fn read_at<L: Lookahead>(input: &mut L, cells: &mut [u32]) -> Read
 }
 
 /// A number, a percentage or a dimension.
-pub fn read_number<L: Lookahead>(input: &mut L, cells: &mut [u32]) -> Read
+pub fn read_number<L: Lookahead>(input: &mut L, cells: &mut Cells<'_>) -> Read
     ensures { Reads cells.old (L.Lookahead.rest input.old) (numeric_at (codes (L.Lookahead.rest input.old))) cells.new result (L.Lookahead.rest input.new) }
 {
-    let text = collect_number(input, cells, EMPTY);
+    collect_number(input, cells);
+    let text = cells.filled();
     let seen = input.peek();
     if seen.starts_ident() {
-        let all = collect_name(input, cells, text);
-        return Read {
-            kind: Kind::Dimension,
-            mark: 0,
-            text,
-            all,
-        };
+        collect_name(input, cells);
+        return Read::texted(Kind::Dimension, text);
     }
     if seen.first == 0x25 {
         input.bump();
@@ -80,18 +76,18 @@ pub fn read_number<L: Lookahead>(input: &mut L, cells: &mut [u32]) -> Read
 }
 
 /// A url, from its first code point that is no whitespace.
-pub fn read_url<L: Lookahead>(input: &mut L, cells: &mut [u32]) -> Read
+pub fn read_url<L: Lookahead>(input: &mut L, cells: &mut Cells<'_>) -> Read
     ensures { Reads cells.old (L.Lookahead.rest input.old) (url_at (codes (L.Lookahead.rest input.old))) cells.new result (L.Lookahead.rest input.new) }
 {
-    let text = collect_url(input, cells, EMPTY);
+    collect_url(input, cells);
     skip_whitespace(input);
     let seen = input.peek();
     // The end closes a url as `)` does.
     if seen.first == 0x29 || seen.first == EOF {
         input.bump();
-        return Read::texted(Kind::Url, text);
+        return Read::texted(Kind::Url, cells.filled());
     }
     skip_remnants(input);
     input.bump();
-    Read::texted(Kind::BadUrl, text)
+    Read::texted(Kind::BadUrl, cells.filled())
 }

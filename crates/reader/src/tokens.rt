@@ -1,7 +1,8 @@
 //! One token, by what its first code points decide.
 ghost use Rattle.reader.specs.Reads.{Reads, found_from, less_found};
 ghost use Rattle.lookahead.specs.Ahead.{codes, past};
-ghost use Rattle.std.specs.Prelude.{◌≡◌, ℕ, List};
+ghost use Rattle.std.specs.Prelude.{◌≡◌};
+ghost use Rattle.scan.specs.declared.cells.Cells.{Cells};
 
 use crate::first_three::{is_comment_closing, is_comment_opening, is_quote, opens_hash};
 use crate::names::read_ident_like;
@@ -9,11 +10,11 @@ use crate::read::Read;
 use crate::texts::{read_at, read_hash, read_number, read_string};
 use codepoint::class::is_whitespace;
 use lookahead::Lookahead;
-use scan::skip_whitespace;
+use scan::{Cells, skip_whitespace};
 use syntax::kind::Kind;
 
 /// A token, from its first code point. What it collects goes into the cells from the first on.
-pub fn read_token<L: Lookahead>(input: &mut L, cells: &mut [u32]) -> Read
+pub fn read_token<L: Lookahead>(input: &mut L, cells: &mut Cells<'_>) -> Read
     ensures { Reads cells.old (L.Lookahead.rest input.old) (found_from (codes (L.Lookahead.rest input.old))) cells.new result (L.Lookahead.rest input.new) }
 {
     let seen = input.peek();
@@ -54,7 +55,7 @@ pub fn read_token<L: Lookahead>(input: &mut L, cells: &mut [u32]) -> Read
 
 /// From behind `<`: `<!--`, or the sign.
 fn read_less<L: Lookahead>(input: &mut L) -> Read
-    ensures { (cells : List ℕ) → Reads cells (L.Lookahead.rest input.old) (less_found (codes (L.Lookahead.rest input.old))) cells result (L.Lookahead.rest input.new) }
+    ensures { (cells : Cells) → Reads cells (L.Lookahead.rest input.old) (less_found (codes (L.Lookahead.rest input.old))) cells result (L.Lookahead.rest input.new) }
 {
     let seen = input.peek();
     if is_comment_opening(seen) {

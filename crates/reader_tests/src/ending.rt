@@ -4,19 +4,9 @@ use refusal::Fault;
 use stream::{ArraySource, ByteSource};
 use syntax::kind::Kind;
 
-fn bare(kind: Kind, place: usize) -> Next {
+fn token(kind: Kind, text: usize, place: usize) -> Next {
     Next::Token(Located {
         kind,
-        mark: 0,
-        text: 0,
-        unit: 0,
-        place,
-    })
-}
-
-fn ident(text: usize, place: usize) -> Next {
-    Next::Token(Located {
-        kind: Kind::Ident,
         mark: 0,
         text,
         unit: 0,
@@ -28,8 +18,11 @@ fn ident(text: usize, place: usize) -> Next {
 fn the_end_repeats(rt: HostRuntime) {
     let mut cells = [7; 4];
     let mut reader = Reader::new(ByteSource::new(b"/**/ab;"));
-    assert_eq!(rt; reader.next_token(&mut cells), Ok(ident(2, 4)));
-    assert_eq!(rt; reader.next_token(&mut cells), Ok(bare(Kind::Semicolon, 6)));
+    assert_eq!(rt; reader.next_token(&mut cells), Ok(token(Kind::Ident, 2, 4)));
+    assert_eq!(rt;
+        reader.next_token(&mut cells),
+        Ok(token(Kind::Semicolon, 0, 6))
+    );
     assert_eq!(rt; reader.next_token(&mut cells), Ok(Next::End(7)));
     assert_eq!(rt; reader.next_token(&mut cells), Ok(Next::End(7)));
     assert_eq!(rt; reader.next_token(&mut cells), Ok(Next::End(7)));
@@ -40,7 +33,7 @@ fn the_end_repeats(rt: HostRuntime) {
 fn a_fault_too_near_behind_a_token(rt: HostRuntime) {
     let mut cells = [0; 4];
     let mut reader = Reader::new(ByteSource::new(b"a;;;\xff"));
-    assert_eq!(rt; reader.next_token(&mut cells), Ok(ident(1, 0)));
+    assert_eq!(rt; reader.next_token(&mut cells), Ok(token(Kind::Ident, 1, 0)));
     assert_eq!(rt; reader.next_token(&mut cells), Err(Fault::IllFormed(4)));
     assert_eq!(rt; reader.next_token(&mut cells), Err(Fault::IllFormed(4)));
 }
@@ -49,7 +42,7 @@ fn a_fault_too_near_behind_a_token(rt: HostRuntime) {
 fn a_comment_counts_as_following(rt: HostRuntime) {
     let mut cells = [0; 4];
     let mut reader = Reader::new(ArraySource::new(&[0x61, 0x2f, 0x2a, 0x62, 0x110000]));
-    assert_eq!(rt; reader.next_token(&mut cells), Ok(ident(1, 0)));
+    assert_eq!(rt; reader.next_token(&mut cells), Ok(token(Kind::Ident, 1, 0)));
     assert_eq!(rt; reader.next_token(&mut cells), Err(Fault::OutOfRange(4)));
 }
 

@@ -34,7 +34,7 @@ pub fn waiting_after(waiting: Waiting, token: Token<'_>) -> Waiting
     }
 }
 
-/// The name `url` in any ASCII case.
+/// The name `url` in any ASCII case. The reader asks this of three code points that it holds back, in no slice.
 fn is_url(name: &[u32]) -> bool
     ensures { result ≡ is_url name.now }
 {

@@ -2,11 +2,12 @@
 use Rattle.std.proofs.Common.{◌≡◌, ℕ, true, false, List, [], ◌∷◌, get_or, drop, refl, ap, arith}
 use Rattle.std.proofs.lemmas.Bool.{both_ways}
 use Rattle.codepoint.specs.Utf8.{code_points_of}
-use Rattle.codepoint.specs.Classes.{is_ident, is_ident_start, is_letter, is_digit}
+use Rattle.codepoint.specs.Classes.{is_ident, is_ident_start, is_letter, is_digit, is_non_printable, is_whitespace}
 use Rattle.codepoint.specs.Starts.{is_valid_escape}
 use Rattle.stream.specs.Preprocess.{Placed}
 use Rattle.syntax.specs.Rules.{Step}
 use Rattle.syntax.specs.Rules.Step.{halt}
+use Rattle.syntax.specs.Bodies.{ends_url}
 use Rattle.syntax.specs.Escapes.{in_ident, escape}
 use Rattle.lookahead.specs.declared.ahead.Peek.{Peek}
 use Rattle.lookahead.specs.Ahead.{EndsAtZero, peeked}
@@ -20,6 +21,11 @@ no_ident = refl
 no_escape : is_valid_escape 0 0 ≡ false
 unfolding is_valid_escape
 no_escape = refl
+
+-- but a url ends there
+pub ends_url_lem : ends_url 0 ≡ true
+unfolding is_whitespace is_non_printable
+ends_url_lem = refl
 
 -- an escape at the front
 abbrev pub GivesEscape : (List ℕ → Step ℕ) → List ℕ → Type 0

@@ -1,4 +1,4 @@
-pub mod Cells
+pub mod Filling
 pub mod States
 pub mod Arms
 pub mod Whiles

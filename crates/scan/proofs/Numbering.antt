@@ -1,27 +1,26 @@
 -- The parts of a number.
-use Rattle.std.proofs.Common.{◌≡◌, ℕ, zero, suc, ◌+◌, ◌<◌, List, [], ◌∷◌, ◌++◌, length, get_or, take, drop, Option, sym, refl, ap, ◌∙◌, append-nil, add-zero}
+use Rattle.std.proofs.Common.{◌≡◌, ℕ, zero, suc, ◌+◌, ◌<◌, List, [], ◌∷◌, ◌++◌, length, get_or, take, drop, sym, refl, ap, ◌∙◌, append-nil, add-zero}
 use Rattle.std.proofs.lemmas.List.{take_more, drop-drop, get_or-drop}
 use Rattle.syntax.specs.Numbers.{digits, past_digits, sign_length, fraction_length, exponent_length, part, part_if_any, with_fraction, with_exponent, number_at}
 use Rattle.lookahead.specs.declared.ahead.Peek.{Peek}
 use Rattle.lookahead.specs.Ahead.{Ahead, codes, past, peeked}
+use Rattle.scan.specs.declared.cells.Cells.{Cells}
 use Rattle.scan.specs.Fills.{Collects, onto, set_next}
 use Rattle.scan.proofs.Turns.{collects_then, collects_said, one_collected}
 use Rattle.scan.proofs.Arms.{first_is}
 
 -- the first n code points were collected
-abbrev pub Taken : Ahead → ℕ → List ℕ → Option ℕ → List ℕ → Option ℕ → Ahead → Type 0
-Taken s0 n c0 f0 c1 f1 s1 = Collects c0 f0 s0 (take n (codes s0)) (drop n (codes s0)) c1 f1 s1
+abbrev pub Taken : Cells → Ahead → ℕ → Cells → Ahead → Type 0
+Taken c0 s0 n c s = Collects c0 s0 (take n (codes s0)) (drop n (codes s0)) c s
 
-pub one_taken : (s0 s s' : Ahead) (n : ℕ) (w : Peek) (c0 : List ℕ) (f0 : Option ℕ) (c1 : List ℕ) (f1 : Option ℕ) (c2 : List ℕ) (f2 : Option ℕ)
-    → Taken s0 n c0 f0 c1 f1 s → n < length (codes s0) → w ≡ peeked s.list → s' ≡ past 1 s → c2 ≡ set_next c1 f1 w.first → f2 ≡ onto (length c1) f1 → Taken s0 (n + 1) c0 f0 c2 f2 s'
-one_taken s0 s s' n w c0 f0 c1 f1 c2 f2 a l seen e c f =
+pub one_taken : (s0 s s' : Ahead) (n : ℕ) (w : Peek) (c0 c1 c2 : Cells) → Taken c0 s0 n c1 s → n < length (codes s0) → w ≡ peeked s.list → s' ≡ past 1 s → c2.cells.now ≡ set_next c1.cells.now c1.filled w.first → c2.filled ≡ onto (length c1.cells.now) c1.filled → c2.cells.ghost_name ≡ c1.cells.ghost_name → Taken c0 s0 (n + 1) c2 s'
+one_taken s0 s s' n w c0 c1 c2 a l seen e h i k =
     let v : w.first ≡ get_or (codes s0) n 0 = first_is s.list w seen ∙ ap (λ t. get_or t 0 0) a.left.rest_is ∙ get_or-drop n (codes s0) 0 0 ∙ ap (λ k. get_or (codes s0) k 0) (add-zero n) in
-    collects_said refl (ap (λ x. take n (codes s0) ++ x ∷ []) v ∙ sym (take_more (codes s0) n 0 l)) (ap (drop 1) a.left.rest_is ∙ drop-drop 1 n (codes s0)) (collects_then a (one_collected c1 f1 w.first c2 f2 s s' e c f))
+    collects_said refl (ap (λ x. take n (codes s0) ++ x ∷ []) v ∙ sym (take_more (codes s0) n 0 l)) (ap (drop 1) a.left.rest_is ∙ drop-drop 1 n (codes s0)) (collects_then a (one_collected c1 w.first c2 s s' e h i k))
 
 -- and the digits behind them
-pub part_collected : (s0 s s' : Ahead) (n : ℕ) (c0 : List ℕ) (f0 : Option ℕ) (c1 : List ℕ) (f1 : Option ℕ) (c2 : List ℕ) (f2 : Option ℕ)
-    → Taken s0 n c0 f0 c1 f1 s → Collects c1 f1 s (digits (codes s)) (past_digits (codes s)) c2 f2 s' → Collects c0 f0 s0 (part n [] (codes s0)).0 (part n [] (codes s0)).1 c2 f2 s'
-part_collected s0 s s' n c0 f0 c1 f1 c2 f2 a b =
+pub part_collected : (s0 s s' : Ahead) (n : ℕ) (c0 c1 c2 : Cells) → Taken c0 s0 n c1 s → Collects c1 s (digits (codes s)) (past_digits (codes s)) c2 s' → Collects c0 s0 (part n [] (codes s0)).0 (part n [] (codes s0)).1 c2 s'
+part_collected s0 s s' n c0 c1 c2 a b =
     collects_said refl (ap (λ t. take n (codes s0) ++ digits t) a.left.rest_is) (ap past_digits a.left.rest_is) (collects_then a b)
 
 -- the lengths of the parts, by what the window shows
@@ -41,17 +40,17 @@ part_behind zero t s = λ i. (sym (append-nil t) i, s)
 part_behind (suc k) t s = refl
 
 -- a part of a number was collected
-abbrev Part : ℕ → List ℕ → Option ℕ → Ahead → List ℕ → Option ℕ → Ahead → Type 0
-Part k c0 f0 s c1 f1 s1 = Collects c0 f0 s (part_if_any k [] (codes s)).0 (part_if_any k [] (codes s)).1 c1 f1 s1
+abbrev Part : ℕ → Cells → Ahead → Cells → Ahead → Type 0
+Part k c s c' s' = Collects c s (part_if_any k [] (codes s)).0 (part_if_any k [] (codes s)).1 c' s'
 
 -- the three parts are the number
-pub number_collected : (s0 l0 : Ahead) (u : Peek) (c0 : List ℕ) (f0 : Option ℕ) (c1 : List ℕ) (f1 : Option ℕ) (s1 l1 : Ahead) (w : Peek) (c2 : List ℕ) (f2 : Option ℕ) (s2 l2 : Ahead) (v : Peek) (c3 : List ℕ) (f3 : Option ℕ) (s3 : Ahead) (n f e : ℕ)
-    → l0 ≡ s0 → u ≡ peeked s0.list → n ≡ sign_length u.first → Collects c0 f0 l0 (part n [] (codes l0)).0 (part n [] (codes l0)).1 c1 f1 s1
-    → l1 ≡ s1 → w ≡ peeked s1.list → f ≡ fraction_length w.first w.second → Part f c1 f1 l1 c2 f2 s2
-    → l2 ≡ s2 → v ≡ peeked s2.list → e ≡ exponent_length v.first v.second v.third → Part e c2 f2 l2 c3 f3 s3
-    → Collects c0 f0 s0 (number_at (codes s0)).0 (number_at (codes s0)).1 c3 f3 s3
+pub number_collected : (s0 l0 : Ahead) (u : Peek) (c0 c1 : Cells) (s1 l1 : Ahead) (w : Peek) (c2 : Cells) (s2 l2 : Ahead) (v : Peek) (c3 : Cells) (s3 : Ahead) (n f e : ℕ)
+    → l0 ≡ s0 → u ≡ peeked s0.list → n ≡ sign_length u.first → Collects c0 l0 (part n [] (codes l0)).0 (part n [] (codes l0)).1 c1 s1
+    → l1 ≡ s1 → w ≡ peeked s1.list → f ≡ fraction_length w.first w.second → Part f c1 l1 c2 s2
+    → l2 ≡ s2 → v ≡ peeked s2.list → e ≡ exponent_length v.first v.second v.third → Part e c2 l2 c3 s3
+    → Collects c0 s0 (number_at (codes s0)).0 (number_at (codes s0)).1 c3 s3
 unfolding number_at
-number_collected s0 l0 u c0 f0 c1 f1 s1 l1 w c2 f2 s2 l2 v c3 f3 s3 n f e el0 su en a0 el1 sw ef b el2 sv ee d =
+number_collected s0 l0 u c0 c1 s1 l1 w c2 s2 l2 v c3 s3 n f e el0 su en a0 el1 sw ef b el2 sv ee d =
     let one = part (sign_length (get_or (codes s0) 0 0)) [] (codes s0) in
     let a1 : part n [] (codes l0) ≡ one = λ i. part (sign_is s0 u su n en i) [] (codes (el0 i)) in
     let a = collects_said el0 (ap (λ p. p.0) a1) (ap (λ p. p.1) a1) a0 in

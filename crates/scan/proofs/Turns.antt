@@ -7,6 +7,7 @@ use Rattle.syntax.specs.Rules.Step.{halt, give}
 use Rattle.syntax.specs.Escapes.{escape}
 use Rattle.lookahead.specs.declared.ahead.Peek.{Peek}
 use Rattle.lookahead.specs.Ahead.{Ahead, EndsAtZero, Left, codes, past, peeked}
+use Rattle.scan.specs.declared.cells.Cells.{Cells}
 use Rattle.scan.specs.declared.rule.Turn.{Turn}
 use Rattle.scan.specs.Fills.{Collects, onto, filled, set_next, laid}
 use Rattle.scan.specs.Turns.{Says, step_of}
@@ -36,25 +37,29 @@ laid_more cells f (c ∷ t) u =
     ∙ ap (λ n. laid (laid (set_next cells f c) (onto (length cells) f) t) (filled n (onto (length cells) f) t) u) (length_set_next cells f c)
 
 -- one collecting behind another
-pub collects_then : {c0 : List ℕ} {f0 : Option ℕ} {w : Ahead} {t r : List ℕ} {c1 : List ℕ} {f1 : Option ℕ} {w1 : Ahead} {u s : List ℕ} {c2 : List ℕ} {f2 : Option ℕ} {w2 : Ahead}
-    → Collects c0 f0 w t r c1 f1 w1 → Collects c1 f1 w1 u s c2 f2 w2 → Collects c0 f0 w (t ++ u) s c2 f2 w2
-collects_then {c0} {f0} {w} {t} {r} {c1} {f1} {w1} {u} a b = record {
-  cells = b.cells ∙ (λ i. laid (a.cells i) (a.fill i) u) ∙ sym (laid_more c0 f0 t u);
-  fill = b.fill ∙ (λ i. filled (length (a.cells i)) (a.fill i) u) ∙ ap (λ n. filled n (filled (length c0) f0 t) u) (length_laid c0 f0 t) ∙ sym (filled_more (length c0) f0 t u);
-  left = left_then a.left b.left;
-}
+pub collects_then : {c : Cells} {w : Ahead} {t r : List ℕ} {c1 : Cells} {w1 : Ahead} {u s : List ℕ} {c2 : Cells} {w2 : Ahead} → Collects c w t r c1 w1 → Collects c1 w1 u s c2 w2 → Collects c w (t ++ u) s c2 w2
+collects_then {c} {w} {t} {r} {c1} {w1} {u} a b =
+    let cap = length c.cells.now in
+    record {
+      cells = b.cells ∙ (λ i. laid (a.cells i) (a.fill i) u) ∙ sym (laid_more c.cells.now c.filled t u);
+      fill = b.fill ∙ (λ i. filled (length (a.cells i)) (a.fill i) u) ∙ ap (λ n. filled n (filled cap c.filled t) u) (length_laid c.cells.now c.filled t) ∙ sym (filled_more cap c.filled t u);
+      same_cells = b.same_cells ∙ a.same_cells;
+      left = left_then a.left b.left;
+    }
 
 -- the same in other words, from an equal input
-pub collects_said : {c0 : List ℕ} {f0 : Option ℕ} {w v : Ahead} {t u r s : List ℕ} {c1 : List ℕ} {f1 : Option ℕ} {w1 : Ahead} → w ≡ v → t ≡ u → r ≡ s → Collects c0 f0 w t r c1 f1 w1 → Collects c0 f0 v u s c1 f1 w1
-collects_said {c0} {f0} k e q a = record {
-  cells = a.cells ∙ ap (laid c0 f0) e;
-  fill = a.fill ∙ ap (filled (length c0) f0) e;
+pub collects_said : {c : Cells} {w v : Ahead} {t u r s : List ℕ} {c1 : Cells} {w1 : Ahead} → w ≡ v → t ≡ u → r ≡ s → Collects c w t r c1 w1 → Collects c v u s c1 w1
+collects_said {c} k e q a = record {
+  cells = a.cells ∙ ap (laid c.cells.now c.filled) e;
+  fill = a.fill ∙ ap (filled (length c.cells.now) c.filled) e;
+  same_cells = a.same_cells;
   left = record { count = a.left.count; passed = a.left.passed ∙ ap (past a.left.count) k; rest_is = a.left.rest_is ∙ q };
 }
 
-pub one_collected : (cells : List ℕ) (fill : Option ℕ) (c : ℕ) (cells' : List ℕ) (fill' : Option ℕ) (w w' : Ahead) → w' ≡ past 1 w → cells' ≡ set_next cells fill c → fill' ≡ onto (length cells) fill → Collects cells fill w (c ∷ []) (drop 1 (codes w)) cells' fill' w'
+-- one code point was put into the next cell
+pub one_collected : (c : Cells) (v : ℕ) (c' : Cells) (w w' : Ahead) → w' ≡ past 1 w → c'.cells.now ≡ set_next c.cells.now c.filled v → c'.filled ≡ onto (length c.cells.now) c.filled → c'.cells.ghost_name ≡ c.cells.ghost_name → Collects c w (v ∷ []) (drop 1 (codes w)) c' w'
 unfolding laid filled
-one_collected cells fill c cells' fill' w w' e h i = record { cells = h; fill = i; left = record { count = 1; passed = e; rest_is = ap codes e ∙ codes_past 1 w } }
+one_collected c v c' w w' e h i n = record { cells = h; fill = i; same_cells = n; left = record { count = 1; passed = e; rest_is = ap codes e ∙ codes_past 1 w } }
 
 -- a turn of a rule, by what the window shows
 nonempty : (t : List ℕ) → (get_or t 0 0 ≡ 0 → ⊥) → 0 < length t
@@ -81,9 +86,10 @@ module _ (f : List ℕ → Step ℕ) where
     pub same_left : beyond f (codes s) ≡ beyond f (codes s0)
 
   -- and what it gave stands in the cells
-  pub record Sofar (cells0 : List ℕ) (fill0 : Option ℕ) (s0 : Ahead) (cells : List ℕ) (fill : Option ℕ) (s : Ahead) : Type 0 where
-    pub same_cells : laid cells fill (collect f (codes s)) ≡ laid cells0 fill0 (collect f (codes s0))
-    pub same_fill : filled (length cells) fill (collect f (codes s)) ≡ filled (length cells0) fill0 (collect f (codes s0))
+  pub record Sofar (c0 : Cells) (s0 : Ahead) (c : Cells) (s : Ahead) : Type 0 where
+    pub same_end : laid c.cells.now c.filled (collect f (codes s)) ≡ laid c0.cells.now c0.filled (collect f (codes s0))
+    pub same_fill : filled (length c.cells.now) c.filled (collect f (codes s)) ≡ filled (length c0.cells.now) c0.filled (collect f (codes s0))
+    pub same_cells : c.cells.ghost_name ≡ c0.cells.ghost_name
     pub skipped : Skipped s0 s
 
   module _ (s0 s : Ahead) (h : Skipped s0 s) where
@@ -97,48 +103,51 @@ module _ (f : List ℕ → Step ℕ) where
     pub skip_done : beyond f (codes s) ≡ codes s → (s' : Ahead) → s' ≡ s → Left s0 (beyond f (codes s0)) s'
     skip_done g s' e = record { count = h.count; passed = e ∙ h.passed; rest_is = ap codes e ∙ sym g ∙ h.same_left }
 
-  module _ (cells0 : List ℕ) (fill0 : Option ℕ) (s0 : Ahead) (cells : List ℕ) (fill : Option ℕ) (s : Ahead) (h : Sofar cells0 fill0 s0 cells fill s) where
+  module _ (c0 : Cells) (s0 : Ahead) (c : Cells) (s : Ahead) (h : Sofar c0 s0 c s) where
     -- a turn that gives one code point
-    pub turn_one : (v k : ℕ) → Gives f (codes s) (v ∷ []) k → (cells' : List ℕ) (fill' : Option ℕ) (s' : Ahead) → s' ≡ past (suc k) s → cells' ≡ set_next cells fill v → fill' ≡ onto (length cells) fill → Sofar cells0 fill0 s0 cells' fill' s'
+    pub turn_one : (v k : ℕ) → Gives f (codes s) (v ∷ []) k → (c' : Cells) (s' : Ahead) → s' ≡ past (suc k) s → c'.cells.now ≡ set_next c.cells.now c.filled v → c'.filled ≡ onto (length c.cells.now) c.filled → c'.cells.ghost_name ≡ c.cells.ghost_name → Sofar c0 s0 c' s'
     unfolding laid filled
-    turn_one v k g cells' fill' s' e c i =
+    turn_one v k g c' s' e q i n =
         let o = turn_out f s s' (v ∷ []) k g e in
         record {
-          same_cells = rw (c, i) (sym (ap (laid cells fill) o) ∙ h.same_cells);
-          same_fill = rw (c, i, length_set_next cells fill v) (sym (ap (filled (length cells) fill) o) ∙ h.same_fill);
+          same_end = rw (q, i) (sym (ap (laid c.cells.now c.filled) o) ∙ h.same_end);
+          same_fill = rw (q, i, length_set_next c.cells.now c.filled v) (sym (ap (filled (length c.cells.now) c.filled) o) ∙ h.same_fill);
+          same_cells = n ∙ h.same_cells;
           skipped = skip_turn s0 s h.skipped (v ∷ []) k g s' e;
         }
 
     -- a turn that gives none
-    pub turn_none : (k : ℕ) → Gives f (codes s) [] k → (s' : Ahead) → s' ≡ past (suc k) s → Sofar cells0 fill0 s0 cells fill s'
+    pub turn_none : (k : ℕ) → Gives f (codes s) [] k → (s' : Ahead) → s' ≡ past (suc k) s → Sofar c0 s0 c s'
     turn_none k g s' e =
         let o = turn_out f s s' [] k g e in
         record {
-          same_cells = sym (ap (laid cells fill) o) ∙ h.same_cells;
-          same_fill = sym (ap (filled (length cells) fill) o) ∙ h.same_fill;
+          same_end = sym (ap (laid c.cells.now c.filled) o) ∙ h.same_end;
+          same_fill = sym (ap (filled (length c.cells.now) c.filled) o) ∙ h.same_fill;
+          same_cells = h.same_cells;
           skipped = skip_turn s0 s h.skipped [] k g s' e;
         }
 
     -- a turn that gives an escape, read from s1
-    pub turn_escape : Gives f (codes s) ((escape (drop 1 (codes s))).0 ∷ []) (escape (drop 1 (codes s))).1 → (cells' : List ℕ) (fill' : Option ℕ) (s1 s' : Ahead) (v : ℕ) → s1 ≡ past 1 s → v ≡ (escape (codes s1)).0 → s' ≡ past (escape (codes s1)).1 s1 → cells' ≡ set_next cells fill v → fill' ≡ onto (length cells) fill → Sofar cells0 fill0 s0 cells' fill' s'
-    turn_escape g cells' fill' s1 s' v e1 ev e c i =
+    pub turn_escape : Gives f (codes s) ((escape (drop 1 (codes s))).0 ∷ []) (escape (drop 1 (codes s))).1 → (c' : Cells) (s1 s' : Ahead) (v : ℕ) → s1 ≡ past 1 s → v ≡ (escape (codes s1)).0 → s' ≡ past (escape (codes s1)).1 s1 → c'.cells.now ≡ set_next c.cells.now c.filled v → c'.filled ≡ onto (length c.cells.now) c.filled → c'.cells.ghost_name ≡ c.cells.ghost_name → Sofar c0 s0 c' s'
+    turn_escape g c' s1 s' v e1 ev e q i n =
         let d : codes s1 ≡ drop 1 (codes s) = ap codes e1 ∙ codes_past 1 s in
         let ev' : v ≡ (escape (drop 1 (codes s))).0 = ev ∙ ap (λ t. (escape t).0) d in
         let e' : s' ≡ past (suc (escape (drop 1 (codes s))).1) s = e ∙ ap (λ t. past (escape t).1 s1) d ∙ ap (past (escape (drop 1 (codes s))).1) e1 ∙ past_one _ s in
-        turn_one (escape (drop 1 (codes s))).0 (escape (drop 1 (codes s))).1 g cells' fill' s' e' (c ∙ ap (set_next cells fill) ev') i
+        turn_one (escape (drop 1 (codes s))).0 (escape (drop 1 (codes s))).1 g c' s' e' (q ∙ ap (set_next c.cells.now c.filled) ev') i n
 
     -- the last turn
-    finish : collect f (codes s) ≡ [] → beyond f (codes s) ≡ codes s → (s' : Ahead) → s' ≡ s → Collects cells0 fill0 s0 (collect f (codes s0)) (beyond f (codes s0)) cells fill s'
+    finish : collect f (codes s) ≡ [] → beyond f (codes s) ≡ codes s → (s' : Ahead) → s' ≡ s → Collects c0 s0 (collect f (codes s0)) (beyond f (codes s0)) c s'
     unfolding laid filled
     finish o g s' e = record {
-      cells = sym (ap (laid cells fill) o) ∙ h.same_cells;
-      fill = sym (ap (filled (length cells) fill) o) ∙ h.same_fill;
+      cells = sym (ap (laid c.cells.now c.filled) o) ∙ h.same_end;
+      fill = sym (ap (filled (length c.cells.now) c.filled) o) ∙ h.same_fill;
+      same_cells = h.same_cells;
       left = skip_done s0 s h.skipped g s' e;
     }
 
-    pub finish_halt : f (codes s) ≡ halt → (s' : Ahead) → s' ≡ s → Collects cells0 fill0 s0 (collect f (codes s0)) (beyond f (codes s0)) cells fill s'
+    pub finish_halt : f (codes s) ≡ halt → (s' : Ahead) → s' ≡ s → Collects c0 s0 (collect f (codes s0)) (beyond f (codes s0)) c s'
     finish_halt g s' e = finish (stop_out f (codes s) g) (stop_left f (codes s) g) s' e
 
-    pub finish_end : codes s ≡ [] → (s' : Ahead) → s' ≡ s → Collects cells0 fill0 s0 (collect f (codes s0)) (beyond f (codes s0)) cells fill s'
+    pub finish_end : codes s ≡ [] → (s' : Ahead) → s' ≡ s → Collects c0 s0 (collect f (codes s0)) (beyond f (codes s0)) c s'
     unfolding out left
     finish_end n s' e = finish (ap (collect f) n) (ap (beyond f) n ∙ sym n) s' e

@@ -1,6 +1,7 @@
 -- What stands in a buffer of cells after a text. How many cells are filled is none, once something found no cell.
 use Rattle.std.specs.Prelude.{◌≡◌, ℕ, ◌+◌, cond, List, [], ◌∷◌, length, Some, None, Option, nat_lt, slice_set}
 use Rattle.lookahead.specs.Ahead.{Ahead, Left}
+use Rattle.scan.specs.declared.cells.Cells.{Cells}
 
 -- one code point more, of so many cells
 abbrev pub onto : ℕ → Option ℕ → Option ℕ
@@ -23,8 +24,9 @@ laid cells f (c ∷ t) = laid (set_next cells f c) (onto (length cells) f) t
 abbrev pub empty : Option ℕ
 empty = Some 0
 
--- a text was collected into cells that were so full before, and rest is left
-pub record Collects (cells0 : List ℕ) (fill0 : Option ℕ) (w : Ahead) (text rest : List ℕ) (cells' : List ℕ) (fill' : Option ℕ) (w' : Ahead) : Type 0 where
-  pub cells : cells' ≡ laid cells0 fill0 text
-  pub fill : fill' ≡ filled (length cells0) fill0 text
+-- a text was collected into the cells, which stay the caller's, and rest is left
+pub record Collects (c : Cells) (w : Ahead) (text rest : List ℕ) (c' : Cells) (w' : Ahead) : Type 0 where
+  pub cells : c'.cells.now ≡ laid c.cells.now c.filled text
+  pub fill : c'.filled ≡ filled (length c.cells.now) c.filled text
+  pub same_cells : c'.cells.ghost_name ≡ c.cells.ghost_name
   pub left : Left w rest w'

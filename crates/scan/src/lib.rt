@@ -6,16 +6,16 @@
 //! collects is laid into the cells, and what the rule leaves is ahead afterwards, places included.
 #![tactic(auto)]
 
+mod cells;
 mod collecting;
 mod escapes;
-mod fill;
 mod number;
 mod rule;
 mod rules;
 mod skipping;
 
+pub use cells::Cells;
 pub use collecting::{collect_digits, collect_name, collect_string, collect_url};
 pub use escapes::escape;
-pub use fill::put;
 pub use number::collect_number;
 pub use skipping::{skip_comments, skip_extra_whitespace, skip_remnants, skip_whitespace};

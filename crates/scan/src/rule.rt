@@ -5,8 +5,8 @@ ghost use Rattle.scan.specs.Turns.{Says};
 ghost use Rattle.std.specs.Prelude.{ℕ, List};
 ghost use Rattle.syntax.specs.Rules.{Step, beyond, collect};
 
+use crate::cells::Cells;
 use crate::escapes::escape;
-use crate::fill::put;
 use codepoint::starts::EOF;
 use lookahead::Lookahead;
 
@@ -34,24 +34,19 @@ pub(crate) trait Rule {
 }
 
 /// What a rule collects goes into the cells, and what it leaves is ahead.
-pub(crate) fn collect<L: Lookahead, R: Rule>(
-    input: &mut L,
-    rule: &R,
-    cells: &mut [u32],
-    mut filled: Option<usize>,
-) -> Option<usize>
-    ensures { Collects cells.old filled (L.Lookahead.rest input.old) (collect (R.Rule.rule rule.now) (codes (L.Lookahead.rest input.old))) (beyond (R.Rule.rule rule.now) (codes (L.Lookahead.rest input.old))) cells.new result (L.Lookahead.rest input.new) }
+pub(crate) fn collect<L: Lookahead, R: Rule>(input: &mut L, rule: &R, cells: &mut Cells<'_>)
+    ensures { Collects cells.old (L.Lookahead.rest input.old) (collect (R.Rule.rule rule.now) (codes (L.Lookahead.rest input.old))) (beyond (R.Rule.rule rule.now) (codes (L.Lookahead.rest input.old))) cells.new (L.Lookahead.rest input.new) }
 {
     loop {
         let seen = input.peek();
         if seen.first == EOF {
-            return filled;
+            return;
         }
         match rule.turn(seen.first, seen.second) {
-            Turn::Halt => return filled,
+            Turn::Halt => return,
             Turn::Take => {
                 input.bump();
-                filled = put(cells, filled, seen.first);
+                cells.put(seen.first);
             }
             Turn::Pass => input.bump(),
             Turn::PassTwo => {
@@ -61,7 +56,7 @@ pub(crate) fn collect<L: Lookahead, R: Rule>(
             Turn::Escape => {
                 input.bump();
                 let c = escape(input);
-                filled = put(cells, filled, c);
+                cells.put(c);
             }
         }
     }

@@ -76,6 +76,8 @@ fn ends_url(c: u32) -> bool
     is_whitespace(c) || matches!(c, 0x22 | 0x27..=0x29 | 0x5c) || is_non_printable(c)
 }
 
+// `Digits` and `Whitespace` stay two: one rule with a type parameter would need a second trait, and be longer.
+
 /// Digits.
 pub(crate) struct Digits;
 

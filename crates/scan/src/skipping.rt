@@ -4,6 +4,7 @@ ghost use Rattle.lookahead.specs.Ahead.{Left, codes, past};
 ghost use Rattle.syntax.specs.Bodies.{in_comment, in_extra_whitespace, in_remnants, past_comments, past_whitespace};
 ghost use Rattle.syntax.specs.Rules.{beyond, collect};
 
+use crate::cells::Cells;
 use crate::rule::{Rule, collect};
 use crate::rules::{ExtraWhitespace, InComment, InRemnants, Whitespace};
 use lookahead::Lookahead;
@@ -57,5 +58,5 @@ fn skip_comment<L: Lookahead>(input: &mut L)
 fn skip<L: Lookahead, R: Rule>(input: &mut L, rule: &R)
     ensures { Left (L.Lookahead.rest input.old) (beyond (R.Rule.rule rule.now) (codes (L.Lookahead.rest input.old))) (L.Lookahead.rest input.new) }
 {
-    collect(input, rule, &mut [], None);
+    collect(input, rule, &mut Cells::new(&mut []));
 }

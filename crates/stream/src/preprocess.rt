@@ -75,6 +75,7 @@ fn replace(c: u32) -> u32
 }
 
 /// The theorem of preprocessing, held by this function's contract.
+#[tactic(auto, using(crate::proofs::Preprocessing::preprocessing_settles))]
 pub fn preprocessing_settles()
     ensures { PreprocessingSettles }
 {}

@@ -5,7 +5,7 @@ ghost use Rattle.stream.specs.Sources.{Ending, FromSource, Hands};
 
 use refusal::Fault;
 
-/// What a source hands over: a code point together with its place, or the end with its place.
+/// What a source hands over: a code point together with its place, or the end. No `Option`, since the end has a place too.
 #[derive(Clone, Copy, PartialEq, Eq, Debug)]
 pub enum Step {
     Point((u32, usize)),

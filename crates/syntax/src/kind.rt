@@ -31,6 +31,7 @@ pub enum Kind {
 }
 
 impl Kind {
+    /// The number that the rule book gives the kind.
     pub fn number(self) -> u8
         ensures { result ≡ number_of self }
     {

@@ -19,5 +19,6 @@ pub struct State {
     pub(crate) stuck: Option<usize>,
     pub(crate) finished: bool,
     ghost room: { accepted + blocks.depth ≤ 1000000 },
+    ghost shallow: { blocks.depth ≤ 32 },
     ghost few: { comments ≤ accepted },
 }

@@ -1,5 +1,5 @@
 use Rattle.std.proofs.Common.{false, subst}
-use Rattle.reader.specs.NextToken.{begun, model_of}
+use Rattle.reader.specs.NextToken.{begun}
 use Rattle.normal.specs.Normalizing.{Transfers}
 use Rattle.normal.proofs.Refusing.{only_these_refusals}
 use Rattle.normal.proofs.normalization.normalize.Goals as goal
@@ -9,9 +9,9 @@ returns g c =
     let ahead = g.P.Source.ahead c.args.source in
     let ending = g.P.Source.ending c.args.source in
     let transfers : Transfers g.S.Sink.held g.S.Sink.takes false (begun ahead ending) c.args.cells.now c.new-writer.result c.transfer-answer.result
-    (model_of g.P.Source.ahead g.P.Source.ending c.transfer-answer.new.reader) c.transfer-answer.new.cells c.transfer-answer.new.writer =
+    c.transfer-answer.new.reader c.transfer-answer.new.cells c.transfer-answer.new.writer =
     subst (λ m. Transfers g.S.Sink.held g.S.Sink.takes false m c.args.cells.now c.new-writer.result c.transfer-answer.result
-    (model_of g.P.Source.ahead g.P.Source.ending c.transfer-answer.new.reader) c.transfer-answer.new.cells c.transfer-answer.new.writer)
+    c.transfer-answer.new.reader c.transfer-answer.new.cells c.transfer-answer.new.writer)
     c.new-reader.ensures c.transfer-answer.ensures in
     record {
       normalizes = record { first = c.new-writer.result; new = c.new-writer.ensures; transfers = transfers };

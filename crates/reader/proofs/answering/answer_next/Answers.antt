@@ -1,4 +1,4 @@
-use Rattle.std.proofs.Common.{◌≡◌, Err, sym, ◌∙◌}
+use Rattle.std.proofs.Common.{◌≡◌, Err, sym, ◌∙◌, rules}
 use Rattle.std.proofs.lemmas.Result.{err_from_is_err_and}
 use Rattle.reader.proofs.Answered.{ended_answers, end_told, fault_told, told_at_zero, outgrown_answers, token_answers, fault_answers}
 use Rattle.reader.proofs.answering.answer_next.Goals as goal
@@ -22,13 +22,13 @@ pub returns-in_err-token : goal.returns-in_err-token
 returns-in_err-token g c =
     let refused : c.locate.result ≡ Err c.in_err-token.field-0.0 = c.in_err-token.was in
     let p = err_from_is_err_and c.from_residual-in_err-token.result c.from_residual-in_err-token.ensures.1 in
-    rw (p.1, p.2) (outgrown_answers (g.L.Lookahead.rest c.args.input.now) _ _ _ _ _ _ _ c.skip_comments.ensures c.peek-seen.ensures.same c.peek-seen.ensures.seen c.if-seen-eq-EOF.false c.read_token-read.ensures _ c.locate.ensures.fits c.locate.ensures.outgrown _ refused)
+    rw (p.1, p.2) (outgrown_answers (g.L.Lookahead.rest c.args.input.now) _ _ c.args.cells.now _ _ _ _ _ _ c.skip_comments.ensures c.peek-seen.ensures.same c.peek-seen.ensures.seen c.if-seen-eq-EOF.false c.new-cells.ensures.now c.new-cells.ensures.none c.read_token-read.ensures c.filled.ensures _ (search rules) _ c.locate.ensures.fits c.locate.ensures.outgrown _ refused)
 
 pub returns-in_err-transpose : goal.returns-in_err-transpose
 returns-in_err-transpose g c =
     let p = err_from_is_err_and c.from_residual-in_err-transpose.result c.from_residual-in_err-transpose.ensures.1 in
-    rw (p.1, p.2) (fault_answers (g.L.Lookahead.rest c.args.input.now) _ _ _ _ _ _ _ c.skip_comments.ensures c.peek-seen.ensures.same c.peek-seen.ensures.seen c.if-seen-eq-EOF.false c.read_token-read.ensures _ c.locate.ensures.fits c.locate.ensures.outgrown _ c.in_ok-token.was _ c.ending-2.ensures.same _ c.ending-2.ensures.told c.in_err-transpose.field-0.0 (sym c.in_err-transpose.was ∙ c.transpose.ensures))
+    rw (p.1, p.2) (fault_answers (g.L.Lookahead.rest c.args.input.now) _ _ c.args.cells.now _ _ _ _ _ _ c.skip_comments.ensures c.peek-seen.ensures.same c.peek-seen.ensures.seen c.if-seen-eq-EOF.false c.new-cells.ensures.now c.new-cells.ensures.none c.read_token-read.ensures c.filled.ensures _ (search rules) _ c.locate.ensures.fits c.locate.ensures.outgrown _ c.in_ok-token.was _ c.ending-2.ensures.same _ c.ending-2.ensures.told c.in_err-transpose.field-0.0 (sym c.in_err-transpose.was ∙ c.transpose.ensures))
 
 pub returns : goal.returns
 returns g c =
-    token_answers (g.L.Lookahead.rest c.args.input.now) _ _ _ _ _ _ _ c.skip_comments.ensures c.peek-seen.ensures.same c.peek-seen.ensures.seen c.if-seen-eq-EOF.false c.read_token-read.ensures _ c.locate.ensures.fits c.locate.ensures.outgrown _ c.in_ok-token.was _ c.ending-2.ensures.same _ c.ending-2.ensures.told _ (sym c.in_ok-transpose.was ∙ c.transpose.ensures)
+    token_answers (g.L.Lookahead.rest c.args.input.now) _ _ c.args.cells.now _ _ _ _ _ _ c.skip_comments.ensures c.peek-seen.ensures.same c.peek-seen.ensures.seen c.if-seen-eq-EOF.false c.new-cells.ensures.now c.new-cells.ensures.none c.read_token-read.ensures c.filled.ensures _ (search rules) _ c.locate.ensures.fits c.locate.ensures.outgrown _ c.in_ok-token.was _ c.ending-2.ensures.same _ c.ending-2.ensures.told _ (sym c.in_ok-transpose.was ∙ c.transpose.ensures)

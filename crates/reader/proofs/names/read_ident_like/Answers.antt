@@ -7,8 +7,8 @@ returns-then-opens_url g c =
 
 pub returns-then-then-eq40 : goal.returns-then-then-eq40
 returns-then-then-eq40 g c =
-    ident_function _ _ _ _ _ c.hold-held.ensures c.peek-seen.ensures.same c.peek-seen.ensures.seen _ _ _ _ _ _ _ _ c.if-opens_url.ensures c.put_held-begun.ensures.cells c.put_held-begun.ensures.fill c.collect_name-text.ensures c.peek-then.ensures.same c.peek-then.ensures.seen _ c.if-then-eq40.true c.bump-then-then-eq40.ensures _ c.texted.ensures
+    ident_function _ _ _ _ _ c.hold-held.ensures c.peek-seen.ensures.same c.peek-seen.ensures.seen _ _ _ _ _ _ c.if-opens_url.ensures c.put_held.ensures c.collect_name.ensures c.peek-then.ensures.same c.peek-then.ensures.seen _ c.filled.ensures _ c.if-then-eq40.true c.bump-then-then-eq40.ensures _ c.texted.ensures
 
 pub returns : goal.returns
 returns g c =
-    ident_plain _ _ _ _ _ c.hold-held.ensures c.peek-seen.ensures.same c.peek-seen.ensures.seen _ _ _ _ _ _ _ _ c.if-opens_url.ensures c.put_held-begun.ensures.cells c.put_held-begun.ensures.fill c.collect_name-text.ensures c.peek-then.ensures.same c.peek-then.ensures.seen c.if-then-eq40.false _ c.texted-2.ensures
+    ident_plain _ _ _ _ _ c.hold-held.ensures c.peek-seen.ensures.same c.peek-seen.ensures.seen _ _ _ _ _ _ c.if-opens_url.ensures c.put_held.ensures c.collect_name.ensures c.peek-then.ensures.same c.peek-then.ensures.seen _ c.filled-2.ensures c.if-then-eq40.false _ c.texted-2.ensures
