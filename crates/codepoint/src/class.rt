@@ -40,7 +40,7 @@ const CLASSES: [u8; 256] = [
     7, 7, 7, 7, 7, 7, 7, 7, 7, 7, 7, 7, 7, 7, 7, 7,
 ];
 
-/// The class number of any code point: past the table all are ident-start.
+/// The class number of any code point: past the table all are ident-start. The cast stays, since no `From` gives an index.
 pub fn class_of(c: u32) -> u8
     ensures { ClassNumber c result }
 {

@@ -1,4 +1,5 @@
-//! What two or three code points begin. The end of the input stands among them as `EOF`.
+//! What two or three code points begin. The end of the input stands among them as `EOF`. They are passed one by one and in
+//! no struct, since two tests ask others at an offset, and a text that is checked has no window.
 ghost use Rattle.codepoint.specs.Classes.{is_digit, is_ident_start};
 ghost use Rattle.codepoint.specs.Starts.{is_valid_escape, starts_ident, starts_number};
 ghost use Rattle.std.specs.Prelude.{◌≡◌, ◌&&◌, ◌||◌, ◌==◌};

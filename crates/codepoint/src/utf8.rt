@@ -1,7 +1,7 @@
 //! UTF-8, one code point at a time.
 ghost use Rattle.std.specs.Prelude.{◌≡◌, ◌≤◌, take};
 ghost use Rattle.codepoint.specs.Utf8.{BytesTellApart, DecodesBack, WellFormedIsEncoded, decoded, four_bytes, highest_after, lowest_after, scalar_bytes, three_bytes, trail, two_bytes, utf8};
-ghost use Rattle.codepoint.specs.Classes.{is_scalar_value, is_surrogate};
+ghost use Rattle.codepoint.specs.Classes.{is_scalar_value};
 
 pub use crate::encoded::Encoded;
 
@@ -99,13 +99,7 @@ fn decode_four(a: u8, rest: &[u8]) -> Decoded
 pub fn is_scalar_value(c: u32) -> bool
     ensures { result ≡ is_scalar_value c }
 {
-    c <= 0x10ffff && !is_surrogate(c)
-}
-
-fn is_surrogate(c: u32) -> bool
-    ensures { result ≡ is_surrogate c }
-{
-    matches!(c, 0xd800..=0xdfff)
+    char::from_u32(c).is_some()
 }
 
 /// The bytes of a code point; what is no scalar value has those of U+FFFD.
@@ -152,7 +146,7 @@ fn encode_scalar(c: u32) -> Encoded
     }
 }
 
-/// The trailing byte of the low six bits.
+/// The trailing byte of the low six bits; the cast is proved to lose nothing.
 fn trailing(x: u32) -> u8
     ensures { result ≡ trail x }
 {

@@ -1,7 +1,7 @@
 -- Normalize is refused only for the source's fault, a text that outgrows the cells, a bad token, want of room, or by the sink:
 -- what the reader yields is lawful or bad and comes in turn, and the writer that it goes into has no block open.
 use Rattle.std.proofs.Common.{◌≡◌, ℕ, ◌+◌, Bool, true, false, cond, not, ◌&&◌, ltb, leb, List, [], ◌∷◌, map, is_some, IfErr, None, Ok, Err, Result, sym, refl, ap, ◌∙◌, subst, inl, inr, ⊎_elim, arith}
-use Rattle.std.proofs.lemmas.Bool.{and_parts, and_left, cond-true, cond-false, or_parts}
+use Rattle.std.proofs.lemmas.Bool.{and_parts, and_left, cond-true, cond-false, or_parts, both_ways}
 use Rattle.std.proofs.lemmas.Bool.Decides.{nat_tests}
 use Rattle.refusal.specs.declared.fault.Fault.{Fault}
 use Rattle.refusal.specs.declared.fault.Fault.TheVariants.{BadToken, NoRoom}
@@ -43,7 +43,6 @@ use Rattle.writer.specs.Writes.{Adds, Puts}
 use Rattle.writer.specs.Writes.Adds.{whole, broken}
 use Rattle.writer.specs.Writes.Finishes.{finish_refused}
 use Rattle.writer.specs.Writes.Puts.{put_refused, put_added}
-use Rattle.writer.proofs.Admitted.{clash}
 use Rattle.normal.specs.Normalizing.{CanRefuse, Transfers, is_repeated}
 use Rattle.normal.specs.Normalizing.CanRefuse.{the_sources, outgrown, bad_token, no_room, not_taken}
 use Rattle.normal.specs.Normalizing.Transfers.{at_the_end, unread, left_out, put_on, not_put}
@@ -95,8 +94,8 @@ module _ (s : State) (white : Bool) (q : Waiting) (t : TokenValue) (ready : Read
 -- a token that is not bad is lawful where it is lawful or bad, and is its own mended self
 lawful_if_good : (t : TokenValue) → LawfulOrBad t → is_bad t ≡ false → is_lawful t ≡ true
 lawful_if_good t (inl l) good = (test_decides_lawful t).1 l
-lawful_if_good t (inr (inl e)) good = clash (is_bad t) (ap is_bad e) good
-lawful_if_good t (inr (inr e)) good = clash (is_bad t) (ap is_bad e) good
+lawful_if_good t (inr (inl e)) good = absurd (both_ways (is_bad t) good (ap is_bad e))
+lawful_if_good t (inr (inr e)) good = absurd (both_ways (is_bad t) good (ap is_bad e))
 
 good_is_mended : (t : TokenValue) → is_bad t ≡ false → mended t ≡ t
 good_is_mended t good = cond-false (is_kind BadString t) (bare QuotedString) t (or_parts (is_kind BadString t) _ good).0
@@ -140,7 +139,7 @@ stays_behind : (q : Waiting) (t : TokenValue) → Stays (is_kind Whitespace t) (
 stays_behind q t h = subst (λ x. (u : TokenValue) → is_kind Whitespace u ≡ true → is_in_turn x u ≡ true → waiting_after x u ≡ x) (sym (behind_whitespace q t h)) (by (is_after_url q))
   where
     by : (b : Bool) (u : TokenValue) → is_kind Whitespace u ≡ true → is_in_turn (cond b AfterUrlWhitespace Free) u ≡ true → waiting_after (cond b AfterUrlWhitespace Free) u ≡ cond b AfterUrlWhitespace Free
-    by true u k turn = clash (is_kind QuotedString u) turn (other_kind u.kind k).2
+    by true u k turn = absurd (both_ways (is_kind QuotedString u) (other_kind u.kind k).2 turn)
     by false u k turn = behind_whitespace Free u k
 
 -- behind a token that was put
@@ -217,14 +216,14 @@ module _ {S : Type 0} (held : S → List ℕ) (takes : S → ℕ → Bool) where
       by (put_added rule a) l i = broken_is_not_taken m.ahead.ending (value_in t cells₁) f a
 
   -- whatever a transfer from a new reader into a new writer answers
-  pub only_these_refusals : (points : List Placed) (ending : Ending) → AllWithin points → {m' : Model} {cells cells' : List ℕ} {w u : Writer S} (r : Result Counts Fault) → Fresh w.state
-      → Transfers held takes false (begun points ending) cells w r m' cells' u → IfErr r (λ f. CanRefuse ending f)
-  only_these_refusals points ending within (Ok n) fresh h = tt
-  only_these_refusals points ending within {w = w} (Err f) fresh h =
+  pub only_these_refusals : (points : List Placed) {ending : Ending} → AllWithin points → {m m' : Model} {cells cells' : List ℕ} {w u : Writer S} (r : Result Counts Fault) → m ≡ begun points ending → Fresh w.state
+      → Transfers held takes false m cells w r m' cells' u → IfErr r (λ f. CanRefuse ending f)
+  only_these_refusals points within (Ok n) new fresh h = tt
+  only_these_refusals points within {m' = m'} {cells} {cells'} {w} {u} (Err f) new fresh h =
       let s = code_points_of (preprocessed points) in
       let cut = reading_takes_all_once s in
       let ts = map (λ (p : Piece). p.value) cut.pieces in
       let so = reading_yields_lawful_in_turn s ts (cleans points within) cut.tokens in
       let no-whitespace : is_whitespace_left w.state.left ≡ true → false ≡ true = λ e. ap is_whitespace_left (sym fresh.neighbours) ∙ e in
       let ready : Ready false Free w.state = record { going = fresh.going; unstuck = fresh.unstuck; flat = fresh.deep; awaits = fresh.awaits; white_so = no-whitespace } in
-      only_these f ts Free refl cut.tokens so.0 so.1 ready (λ e. clash false e refl) h
+      only_these f ts Free refl cut.tokens so.0 so.1 ready (λ e. absurd (both_ways false refl e)) (subst (λ m. Transfers held takes false m cells w (Err f) m' cells' u) new h)

@@ -35,6 +35,7 @@ pub fn normalize<P: Source, S: Sink>(source: P, sink: S, cells: &mut [u32]) -> N
 }
 
 /// From a reader to a writer, to the end or the first refusal.
+#[tactic(auto, using(crate::proofs::Stepping::ends_here, crate::proofs::Stepping::less_ahead, crate::proofs::Stepping::put_stops, crate::proofs::Stepping::stops_here))]
 fn transfer<P: Source, S: Sink>(
     reader: &mut Reader<P>,
     writer: &mut Writer<S>,

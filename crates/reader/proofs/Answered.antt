@@ -1,8 +1,8 @@
 -- What next_token answers while it goes on.
-use Rattle.std.proofs.Common.{◌≡◌, ℕ, zero, suc, ◌+◌, ◌-◌, ◌≤◌, Bool, true, false, cond, ltb, List, [], ◌∷◌, ◌++◌, length, get_or, drop, Some, None, Option, Ok, Err, Result, sym, refl, ap, ◌∙◌, subst, add-zero, get_or-drop, arith, length-append, length-drop}
+use Rattle.std.proofs.Common.{◌≡◌, ℕ, ◌+◌, ◌-◌, ◌≤◌, Bool, true, false, cond, ltb, List, [], ◌∷◌, ◌++◌, length, get_or, take, drop, Some, None, Option, Ok, Err, Result, sym, refl, ap, ◌∙◌, subst, add-zero, get_or-drop, arith, length-append}
 use Rattle.std.specs.Option.{option_transpose}
-use Rattle.std.proofs.Math.Seq.{drop-nil}
 use Rattle.std.proofs.lemmas.Bool.{le-ltb, ltb-false, cond-true, cond-false}
+use Rattle.std.proofs.lemmas.List.{take-append-drop}
 use Rattle.codepoint.specs.Utf8.{code_points_of}
 use Rattle.refusal.specs.declared.fault.Fault.{Fault}
 use Rattle.refusal.specs.declared.fault.Fault.TheVariants.{Outgrown}
@@ -27,22 +27,19 @@ use Rattle.reader.specs.declared.answer.Next.TheVariants.{Token, End}
 use Rattle.reader.specs.declared.read.Read.{Read}
 use Rattle.reader.specs.Reads.{Reads, found_from}
 use Rattle.reader.specs.NextToken.{Answers, answered, end_answer, located, overwritten, place_of, unless_stopped}
+use Rattle.reader.proofs.Cutting.{cut_exactly}
 use Rattle.reader.proofs.Textual.{first_shown}
 
 -- what is left determines how many were passed over
-pub drop_exactly : {A : Type 0} (k : ℕ) (s : List A) → drop k s ≡ drop (length s - (length s - k)) s
-drop_exactly k [] = drop-nil k ∙ sym (drop-nil (0 - (0 - k)))
-drop_exactly zero (c ∷ s) = ap (λ n. drop n (c ∷ s)) (let e : 0 ≡ suc (length s) - (suc (length s) - 0) = omega arith in e)
-drop_exactly (suc k) (c ∷ s) = drop_exactly k s ∙ ap (λ n. drop n (c ∷ s)) (let e : suc (length s - (length s - k)) ≡ suc (length s) - (suc (length s) - suc k) = omega arith in e)
-
 pub left_exactly : {w w' : Ahead} {r : List ℕ} → Left w r w' → w' ≡ past (length (codes w) - length r) w
 left_exactly {w} {w'} {r} a =
-    let n : length r ≡ length w.list - a.count = ap length (sym a.rest_is) ∙ length_codes w'.list ∙ ap (λ x. length x.list) a.passed ∙ length-drop a.count w.list in
+    let l = drop a.count w.list in
+    let n : length r ≡ length l = ap length (sym a.rest_is) ∙ length_codes w'.list ∙ ap (λ x. length x.list) a.passed in
     let m = length_codes w.list in
-    a.passed ∙ same _ _ (drop_exactly a.count w.list) refl ∙ ap (λ k. past k w) (let e : length w.list - (length w.list - a.count) ≡ length (codes w) - length r = omega arith in e)
+    a.passed ∙ same _ _ (sym (cut_exactly w.list (take a.count w.list) l (sym (take-append-drop a.count w.list)))) refl ∙ ap (λ k. past k w) (let e : length w.list - length l ≡ length (codes w) - length r = omega arith in e)
 
 -- the ending, as it is told
-module _ (o : Option (Result ℕ Fault)) where
+module _ {o : Option (Result ℕ Fault)} where
   pub end_told : (p : ℕ) (e : Ending) → o ≡ Some (ended e) → o ≡ Some (Ok p) → Ok (End p) ≡ end_answer e
   end_told p (ends q) h k = let z : p ≡ q = cc (h, k) in ap (λ x. Ok (End x)) z
   end_told p (stops f) h k = absurd (cc (h, k))
@@ -52,9 +49,9 @@ module _ (o : Option (Result ℕ Fault)) where
   fault_told f (stops g) h k = let z : f ≡ g = cc (h, k) in ap Err z
 
 -- at the end it is in sight
-pub told_at_zero : (s sl : Ahead) (w : Peek) (o : Option (Result ℕ Fault)) → sl ≡ s → EndsAtZero w s.list → w.first ≡ 0 → o ≡ ending_in_sight sl → o ≡ Some (ended sl.ending)
+pub told_at_zero : {s sl : Ahead} {w : Peek} {o : Option (Result ℕ Fault)} → sl ≡ s → EndsAtZero w s.list → w.first ≡ 0 → o ≡ ending_in_sight sl → o ≡ Some (ended sl.ending)
 unfolding ending_in_sight
-told_at_zero s sl w o l at z e = e ∙ ap (λ ps. cond (ltb (length ps) 3) (Some (ended sl.ending)) None) (ap (λ x. x.list) l ∙ at.none z)
+told_at_zero {sl = sl} l at z e = e ∙ ap (λ ps. cond (ltb (length ps) 3) (Some (ended sl.ending)) None) (ap (λ x. x.list) l ∙ at.none z)
 
 -- where it is in sight it may be a fault, which takes an answer's place
 module _ (w : Ahead) (r : Result Next Fault) where
@@ -80,9 +77,9 @@ module _ (w : Ahead) (r : Result Next Fault) where
       by true (stops g) k = let z : f ≡ g = cc k in ap Err z
 
 -- no token is left
-pub ended_answers : (v s1 sl s2 : Ahead) (cells : List ℕ) (w : Peek) (r : Result Next Fault) → Left v (past_comments (codes v)) s1 → sl ≡ s1 → EndsAtZero w s1.list → w.first ≡ 0 → s2 ≡ sl → r ≡ end_answer sl.ending → Answers v cells r cells s2
+pub ended_answers : {v s1 sl s2 : Ahead} {cells : List ℕ} {w : Peek} {r : Result Next Fault} → Left v (past_comments (codes v)) s1 → sl ≡ s1 → EndsAtZero w s1.list → w.first ≡ 0 → s2 ≡ sl → r ≡ end_answer sl.ending → Answers v cells r cells s2
 unfolding next next_at collected taken before answered laid
-ended_answers v s1 sl s2 cells w r k l at z m h =
+ended_answers {v} {s1} {sl} {s2} {cells} k l at z m h =
     let nil : past_comments (codes v) ≡ [] = sym k.rest_is ∙ ap code_points_of (at.none z) in
     let t : taken (codes v) ≡ 0 = ap taken_at nil in
     record {
@@ -114,7 +111,7 @@ given_length : (b : Bool) (t : List ℕ) → cond b 0 (length t) ≡ length (con
 given_length true t = refl
 given_length false t = refl
 
-module _ (v s1 sl : Ahead) (c0 : List ℕ) (d0 d1 : Cells) (s2 : Ahead) (w : Peek) (read : Read) (all : Option ℕ) (k : Left v (past_comments (codes v)) s1) (l : sl ≡ s1) (seen : w ≡ peeked s1.list) (z : w.first ≡ 0 → ⊥) (now : d0.cells.now ≡ c0) (none : d0.filled ≡ empty) (a : Reads d0 sl (found_from (codes sl)) d1 read s2) (all_is : all ≡ d1.filled) (c1 : List ℕ) (returned : c1 ≡ d1.cells.now) where
+module _ {v s1 sl : Ahead} {c0 : List ℕ} {d0 d1 : Cells} {s2 : Ahead} {w : Peek} {read : Read} {all : Option ℕ} (k : Left v (past_comments (codes v)) s1) (l : sl ≡ s1) (seen : w ≡ peeked s1.list) (z : w.first ≡ 0 → ⊥) (now : d0.cells.now ≡ c0) (none : d0.filled ≡ empty) (a : Reads d0 sl (found_from (codes sl)) d1 read s2) (all_is : all ≡ d1.filled) {c1 : List ℕ} (returned : c1 ≡ d1.cells.now) where
   abbrev here : Found
   here = found_from (past_comments (codes v))
 
@@ -151,17 +148,17 @@ module _ (v s1 sl : Ahead) (c0 : List ℕ) (d0 d1 : Cells) (s2 : Ahead) (w : Pee
       reads.text_is none ∙ ap (λ x. filled (length x) empty here.text) now ∙ filled_words (length c0) here.text ∙ cond-false _ _ _ (le-ltb (length c0) (length here.text) (omega arith))
 
   all_so : all ≡ cond (ltb (length c0) (length (collected (codes v)))) None (Some (length (collected (codes v))))
-  all_so = all_is ∙ reads.all_is.fill ∙ (λ i. filled (length (now i)) (none i) (here.text ++ here.unit)) ∙ filled_words (length c0) _ ∙ ap (λ x. cond (ltb (length c0) (length x)) None (Some (length x))) (sym (collected_found (codes v) there))
+  all_so = all_is ∙ reads.all_is.puts.fill ∙ (λ i. filled (length (now i)) (none i) (here.text ++ here.unit)) ∙ filled_words (length c0) _ ∙ ap (λ x. cond (ltb (length c0) (length x)) None (Some (length x))) (sym (collected_found (codes v) there))
 
   -- whatever the answer is, the cells and what is left
   answers : (r : Result Next Fault) (s3 : Ahead) → r ≡ answered (length c0) v (token (token_of here) here.rest) → s3 ≡ s2 → Answers v c0 r c1 s3
   answers r s3 e m = record {
     answer = e ∙ ap (answered (length c0) v) (sym (next_found (codes v) there));
-    cells = returned ∙ reads.all_is.cells ∙ (λ i. laid (now i) (none i) (here.text ++ here.unit)) ∙ laid_words c0 _ ∙ ap (overwritten c0) (sym (collected_found (codes v) there));
+    cells = returned ∙ reads.all_is.puts.cells ∙ (λ i. laid (now i) (none i) (here.text ++ here.unit)) ∙ laid_words c0 _ ∙ ap (overwritten c0) (sym (collected_found (codes v) there));
     left = m ∙ left_is;
   }
 
-  module _ (g : Result Located Fault)
+  module _ {g : Result Located Fault}
       (fits : (n m : ℕ) → read.text ≡ Some n → all ≡ Some m → g ≡ Ok (record { kind = read.kind; mark = read.mark; text = cond (is_bad_kind read.kind) 0 n; unit = m - n; place = w.place }))
       (outgrown : all ≡ None → g ≡ Err (Outgrown w.place)) where
     given : Located
@@ -180,15 +177,15 @@ module _ (v s1 sl : Ahead) (c0 : List ℕ) (d0 d1 : Cells) (s2 : Ahead) (w : Pee
             fits _ _ (text_so (ltb-false _ _ h)) (all_so ∙ cond-false _ _ _ h)
             ∙ (λ i. Ok (record { kind = reads.kind_is i; mark = reads.mark_is i; text = text i; unit = unit i; place = place_is i }))
 
-    pub outgrown_answers : (e : Fault) → g ≡ Err e → Answers v c0 (Err e) c1 s2
+    pub outgrown_answers : {e : Fault} → g ≡ Err e → Answers v c0 (Err e) c1 s2
     unfolding answered
-    outgrown_answers e h = answers _ s2 (by (ltb (length c0) (length (collected (codes v)))) _ (sym h ∙ located_so)) refl
+    outgrown_answers {e} h = answers _ s2 (by (ltb (length c0) (length (collected (codes v)))) _ (sym h ∙ located_so)) refl
       where
         by : (b : Bool) (r : Result Next Fault) → ◌≡◌ {A = Result Located Fault} (Err e) (cond b (Err (Outgrown (place_of v))) (Ok given)) → ◌≡◌ {A = Result Next Fault} (Err e) (cond b (Err (Outgrown (place_of v))) r)
         by true r k = let z : e ≡ Outgrown (place_of v) = cc k in ap Err z
         by false r k = absurd (cc k)
 
-    module _ (t : Located) (is : g ≡ Ok t) (s3 : Ahead) (m : s3 ≡ s2) (o : Option (Result ℕ Fault)) (told : o ≡ ending_in_sight s2) where
+    module _ {t : Located} (is : g ≡ Ok t) {s3 : Ahead} (m : s3 ≡ s2) {o : Option (Result ℕ Fault)} (told : o ≡ ending_in_sight s2) where
       given_so : (ltb (length c0) (length (collected (codes v))) ≡ false) × (t ≡ given)
       given_so = by (ltb (length c0) (length (collected (codes v)))) (sym is ∙ located_so)
         where
@@ -204,8 +201,8 @@ module _ (v s1 sl : Ahead) (c0 : List ℕ) (d0 d1 : Cells) (s2 : Ahead) (w : Pee
       unfolding answered unless_in_sight given
       in_sight_so = (λ i. cond (ltb (sym rest_long i) 3) (unless_stopped (left_is i).ending (Ok (Token (given_so.1 i)))) (Ok (Token (given_so.1 i)))) ∙ sym (cond-false _ _ _ given_so.0)
 
-      pub fault_answers : (f : Fault) → Err f ≡ option_transpose o → Answers v c0 (Err f) c1 s3
-      fault_answers f h = answers _ s3 (stopped s2 (Ok (Token t)) f (h ∙ ap option_transpose told) ∙ in_sight_so) m
+      pub fault_answers : {f : Fault} → Err f ≡ option_transpose o → Answers v c0 (Err f) c1 s3
+      fault_answers {f} h = answers _ s3 (stopped s2 (Ok (Token t)) f (h ∙ ap option_transpose told) ∙ in_sight_so) m
 
-      pub token_answers : (x : Option ℕ) → Ok x ≡ option_transpose o → Answers v c0 (Ok (Token t)) c1 s3
-      token_answers x h = answers _ s3 (not_stopped s2 (Ok (Token t)) x (h ∙ ap option_transpose told) ∙ in_sight_so) m
+      pub token_answers : {x : Option ℕ} → Ok x ≡ option_transpose o → Answers v c0 (Ok (Token t)) c1 s3
+      token_answers {x} h = answers _ s3 (not_stopped s2 (Ok (Token t)) x (h ∙ ap option_transpose told) ∙ in_sight_so) m

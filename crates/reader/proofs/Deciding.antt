@@ -12,7 +12,7 @@ use Rattle.syntax.specs.Reading.Branch.{whitespace, quote, hash, at, number, cdc
 use Rattle.lookahead.specs.declared.ahead.Peek.{Peek}
 use Rattle.lookahead.specs.Ahead.{Ahead, Left, codes, past, peeked}
 use Rattle.scan.specs.declared.cells.Cells.{Cells}
-use Rattle.scan.proofs.States.{codes_past, left_all, left_past, left_said, left_then}
+use Rattle.scan.proofs.States.{codes_past, left_past, left_said, left_then}
 use Rattle.scan.proofs.Arms.{first_is, second_is, third_is}
 use Rattle.reader.specs.declared.read.Read.{Read}
 use Rattle.reader.specs.Reads.{Reads, at_found, bare_read, found_from, hash_found, is_comment_closing, is_comment_opening, less_found, opens_hash, sign_read}
@@ -102,18 +102,15 @@ less_is s = ap (λ x. found_by x 60 s) (branch_less _ _ _) ∙ by (is_comment_op
     by false = refl
 
 -- behind `<`
-module _ (s sl : Ahead) (w : Peek) (l : sl ≡ s) (seen : w ≡ peeked s.list) where
+module _ {s sl : Ahead} {w : Peek} (l : sl ≡ s) (seen : w ≡ peeked s.list) where
   opening_is : (b : Bool) → is_comment_opening w.first w.second w.third ≡ b → less_found (codes s) ≡ cond b (found_bare Cdo (drop 3 (codes s))) (found Delim less_than [] (codes s))
   opening_is b h = ap (λ x. cond x (found_bare Cdo (drop 3 (codes s))) (found Delim less_than [] (codes s))) (sym (ap (λ (t : Peek). is_comment_opening t.first t.second t.third) seen) ∙ h)
 
-  pub less_cdo : (r : Read) (s1 : Ahead) → is_comment_opening w.first w.second w.third ≡ true → s1 ≡ past 3 sl → r ≡ bare_read Cdo 0 → (c0 : Cells) → Reads c0 s (less_found (codes s)) c0 r s1
-  less_cdo r s1 h e q c0 = said (opening_is true h) (bare_reads Cdo 0 (left_past 3 s s1 (e ∙ ap (past 3) l)) r q)
-
-  pub less_sign : (r : Read) → is_comment_opening w.first w.second w.third ≡ false → r ≡ bare_read Delim less_than → (c0 : Cells) → Reads c0 s (less_found (codes s)) c0 r sl
-  less_sign r h q c0 = said (opening_is false h) (bare_reads Delim less_than (left_all s sl l) r q)
+  pub less_cdo : {r : Read} {s1 : Ahead} → is_comment_opening w.first w.second w.third ≡ true → s1 ≡ past 3 sl → r ≡ bare_read Cdo 0 → (c0 : Cells) → Reads c0 s (less_found (codes s)) c0 r s1
+  less_cdo {r = r} {s1 = s1} h e q c0 = said (opening_is true h) (bare_reads Cdo 0 (left_past 3 s s1 (e ∙ ap (past 3) l)) r q)
 
 -- the whole, by what is seen
-module _ (s sl : Ahead) (w : Peek) (l : sl ≡ s) (seen : w ≡ peeked s.list) where
+module _ {s sl : Ahead} {w : Peek} (l : sl ≡ s) (seen : w ≡ peeked s.list) where
   found_by_lem : (x : Branch) → branch w.first w.second w.third (get_or (drop 1 (codes s)) 2 0) ≡ x → found_from (codes s) ≡ found_by x (get_or (codes s) 0 0) (drop 1 (codes s))
   found_by_lem x h =
       let p = behind_one (codes s) in
@@ -126,49 +123,49 @@ module _ (s sl : Ahead) (w : Peek) (l : sl ≡ s) (seen : w ≡ peeked s.list) w
   on_from : {c0 c1 : Cells} {r : Read} {s1 s2 : Ahead} {g : Found} → s1 ≡ past 1 sl → found_from (codes s) ≡ g → Reads c0 s1 g c1 r s2 → Reads c0 s (found_from (codes s)) c1 r s2
   on_from e q a = said q (read_behind 1 (e ∙ ap (past 1) l) a)
 
-  pub token_whitespace : (c0 : Cells) (r : Read) (s1 s2 : Ahead) → is_whitespace w.first ≡ true → s1 ≡ past 1 sl → Left s1 (past_whitespace (codes s1)) s2 → r ≡ bare_read Whitespace 0 → Reads c0 s (found_from (codes s)) c0 r s2
+  pub token_whitespace : {c0 : Cells} {r : Read} {s1 s2 : Ahead} → is_whitespace w.first ≡ true → s1 ≡ past 1 sl → Left s1 (past_whitespace (codes s1)) s2 → r ≡ bare_read Whitespace 0 → Reads c0 s (found_from (codes s)) c0 r s2
   unfolding found_by
-  token_whitespace c0 r s1 s2 h e k q =
+  token_whitespace {r = r} {s1 = s1} h e k q =
       said (found_by_lem whitespace (branch_whitespace _ _ _ _ h)) (bare_reads Whitespace 0 (left_said (ap past_whitespace (behind_first s1 e)) (left_then (left_past 1 s s1 (e ∙ ap (past 1) l)) k)) r q)
 
-  pub token_quote : (c0 c1 : Cells) (r : Read) (s1 s2 : Ahead) → is_whitespace w.first ≡ false → is_quote w.first ≡ true → s1 ≡ past 1 sl → Reads c0 s1 (string_at w.first (codes s1)) c1 r s2 → Reads c0 s (found_from (codes s)) c1 r s2
+  pub token_quote : {c0 c1 : Cells} {r : Read} {s1 s2 : Ahead} → is_whitespace w.first ≡ false → is_quote w.first ≡ true → s1 ≡ past 1 sl → Reads c0 s1 (string_at w.first (codes s1)) c1 r s2 → Reads c0 s (found_from (codes s)) c1 r s2
   unfolding found_by
-  token_quote c0 c1 r s1 s2 nw h e a = on_from e (found_by_lem quote (branch_quote _ _ _ _ nw h) ∙ (λ i. string_at (sym (first_is s.list w seen) i) (sym (behind_first s1 e) i))) a
+  token_quote {s1 = s1} nw h e a = on_from e (found_by_lem quote (branch_quote _ _ _ _ nw h) ∙ (λ i. string_at (sym (first_is s.list w seen) i) (sym (behind_first s1 e) i))) a
 
-  pub token_hash : (c0 c1 : Cells) (r : Read) (s1 s2 : Ahead) → is_whitespace w.first ≡ false → is_quote w.first ≡ false → opens_hash w.first w.second w.third ≡ true → s1 ≡ past 1 sl → Reads c0 s1 (hash_found (codes s1)) c1 r s2 → Reads c0 s (found_from (codes s)) c1 r s2
+  pub token_hash : {c0 c1 : Cells} {r : Read} {s1 s2 : Ahead} → is_whitespace w.first ≡ false → is_quote w.first ≡ false → opens_hash w.first w.second w.third ≡ true → s1 ≡ past 1 sl → Reads c0 s1 (hash_found (codes s1)) c1 r s2 → Reads c0 s (found_from (codes s)) c1 r s2
   unfolding found_by
-  token_hash c0 c1 r s1 s2 nw nq h e a = on_from e (found_by_lem hash (branch_hash _ _ _ _ nw nq h) ∙ ap hash_found (sym (behind_first s1 e))) a
+  token_hash {s1 = s1} nw nq h e a = on_from e (found_by_lem hash (branch_hash _ _ _ _ nw nq h) ∙ ap hash_found (sym (behind_first s1 e))) a
 
-  pub token_at : (c0 c1 : Cells) (r : Read) (s1 s2 : Ahead) → w.first ≡ 64 → s1 ≡ past 1 sl → Reads c0 s1 (at_found (codes s1)) c1 r s2 → Reads c0 s (found_from (codes s)) c1 r s2
-  token_at c0 c1 r s1 s2 z e a = on_from e (ap (λ x. found_at x (drop 1 (codes s))) (sym (first_is s.list w seen) ∙ z) ∙ at_is (drop 1 (codes s)) ∙ ap at_found (sym (behind_first s1 e))) a
+  pub token_at : {c0 c1 : Cells} {r : Read} {s1 s2 : Ahead} → w.first ≡ 64 → s1 ≡ past 1 sl → Reads c0 s1 (at_found (codes s1)) c1 r s2 → Reads c0 s (found_from (codes s)) c1 r s2
+  token_at {s1 = s1} z e a = on_from e (ap (λ x. found_at x (drop 1 (codes s))) (sym (first_is s.list w seen) ∙ z) ∙ at_is (drop 1 (codes s)) ∙ ap at_found (sym (behind_first s1 e))) a
 
-  pub token_less : (c0 : Cells) (r : Read) (s1 s2 : Ahead) → w.first ≡ 60 → s1 ≡ past 1 sl → ((c : Cells) → Reads c s1 (less_found (codes s1)) c r s2) → Reads c0 s (found_from (codes s)) c0 r s2
-  token_less c0 r s1 s2 z e a = on_from e (ap (λ x. found_at x (drop 1 (codes s))) (sym (first_is s.list w seen) ∙ z) ∙ less_is (drop 1 (codes s)) ∙ ap less_found (sym (behind_first s1 e))) (a c0)
+  pub token_less : {c0 : Cells} {r : Read} {s1 s2 : Ahead} → w.first ≡ 60 → s1 ≡ past 1 sl → ((c : Cells) → Reads c s1 (less_found (codes s1)) c r s2) → Reads c0 s (found_from (codes s)) c0 r s2
+  token_less {c0 = c0} {s1 = s1} z e a = on_from e (ap (λ x. found_at x (drop 1 (codes s))) (sym (first_is s.list w seen) ∙ z) ∙ less_is (drop 1 (codes s)) ∙ ap less_found (sym (behind_first s1 e))) (a c0)
 
-  pub token_number : (c0 c1 : Cells) (r : Read) (s2 : Ahead) → is_whitespace w.first ≡ false → is_quote w.first ≡ false → opens_hash w.first w.second w.third ≡ false → (w.first ≡ 64 → ⊥) → starts_number w.first w.second w.third ≡ true → Reads c0 sl (numeric_at (codes sl)) c1 r s2 → Reads c0 s (found_from (codes s)) c1 r s2
+  pub token_number : {c0 c1 : Cells} {r : Read} {s2 : Ahead} → is_whitespace w.first ≡ false → is_quote w.first ≡ false → opens_hash w.first w.second w.third ≡ false → (w.first ≡ 64 → ⊥) → starts_number w.first w.second w.third ≡ true → Reads c0 sl (numeric_at (codes sl)) c1 r s2 → Reads c0 s (found_from (codes s)) c1 r s2
   unfolding found_by
-  token_number c0 c1 r s2 nw nq nh na h a =
+  token_number {c0 = c0} {c1 = c1} {r = r} {s2 = s2} nw nq nh na h a =
       said (found_by_lem number (branch_number _ _ _ _ nw nq nh na h) ∙ ap numeric_at (number_there (codes s) (sym (ap (λ (t : Peek). starts_number t.first t.second t.third) seen) ∙ h)))
       (subst (λ x. Reads c0 x (numeric_at (codes x)) c1 r s2) l a)
 
-  pub token_cdc : (c0 : Cells) (r : Read) (s1 : Ahead) → is_whitespace w.first ≡ false → is_quote w.first ≡ false → opens_hash w.first w.second w.third ≡ false → (w.first ≡ 64 → ⊥) → starts_number w.first w.second w.third ≡ false → is_comment_closing w.first w.second w.third ≡ true → s1 ≡ past 3 sl → r ≡ bare_read Cdc 0 → Reads c0 s (found_from (codes s)) c0 r s1
+  pub token_cdc : {c0 : Cells} {r : Read} {s1 : Ahead} → is_whitespace w.first ≡ false → is_quote w.first ≡ false → opens_hash w.first w.second w.third ≡ false → (w.first ≡ 64 → ⊥) → starts_number w.first w.second w.third ≡ false → is_comment_closing w.first w.second w.third ≡ true → s1 ≡ past 3 sl → r ≡ bare_read Cdc 0 → Reads c0 s (found_from (codes s)) c0 r s1
   unfolding found_by
-  token_cdc c0 r s1 nw nq nh na nn h e q =
+  token_cdc {r = r} {s1 = s1} nw nq nh na nn h e q =
       said (found_by_lem cdc (branch_cdc _ _ _ _ nw nq nh na nn h)) (bare_reads Cdc 0 (left_said (three (codes s)) (left_past 3 s s1 (e ∙ ap (past 3) l))) r q)
     where
       three : (t : List ℕ) → drop 3 t ≡ drop 2 (drop 1 t)
       three [] = refl
       three (c ∷ t) = refl
 
-  pub token_name : (c0 c1 : Cells) (r : Read) (s2 : Ahead) → is_whitespace w.first ≡ false → is_quote w.first ≡ false → opens_hash w.first w.second w.third ≡ false → (w.first ≡ 64 → ⊥) → starts_number w.first w.second w.third ≡ false → is_comment_closing w.first w.second w.third ≡ false → (w.first ≡ 60 → ⊥) → starts_ident w.first w.second w.third ≡ true → Reads c0 sl (ident_like_at (codes sl)) c1 r s2 → Reads c0 s (found_from (codes s)) c1 r s2
+  pub token_name : {c0 c1 : Cells} {r : Read} {s2 : Ahead} → is_whitespace w.first ≡ false → is_quote w.first ≡ false → opens_hash w.first w.second w.third ≡ false → (w.first ≡ 64 → ⊥) → starts_number w.first w.second w.third ≡ false → is_comment_closing w.first w.second w.third ≡ false → (w.first ≡ 60 → ⊥) → starts_ident w.first w.second w.third ≡ true → Reads c0 sl (ident_like_at (codes sl)) c1 r s2 → Reads c0 s (found_from (codes s)) c1 r s2
   unfolding found_by
-  token_name c0 c1 r s2 nw nq nh na nn nc nl h a =
+  token_name {c0 = c0} {c1 = c1} {r = r} {s2 = s2} nw nq nh na nn nc nl h a =
       said (found_by_lem name (branch_name _ _ _ _ nw nq nh na nn nc nl h) ∙ ap ident_like_at (ident_there (codes s) (sym (ap (λ (t : Peek). starts_ident t.first t.second t.third) seen) ∙ h)))
       (subst (λ x. Reads c0 x (ident_like_at (codes x)) c1 r s2) l a)
 
-  pub token_sign : (c0 : Cells) (r : Read) (s1 : Ahead) → is_whitespace w.first ≡ false → is_quote w.first ≡ false → opens_hash w.first w.second w.third ≡ false → (w.first ≡ 64 → ⊥) → starts_number w.first w.second w.third ≡ false → is_comment_closing w.first w.second w.third ≡ false → (w.first ≡ 60 → ⊥) → starts_ident w.first w.second w.third ≡ false → s1 ≡ past 1 sl → r ≡ sign_read w.first → Reads c0 s (found_from (codes s)) c0 r s1
+  pub token_sign : {c0 : Cells} {r : Read} {s1 : Ahead} → is_whitespace w.first ≡ false → is_quote w.first ≡ false → opens_hash w.first w.second w.third ≡ false → (w.first ≡ 64 → ⊥) → starts_number w.first w.second w.third ≡ false → is_comment_closing w.first w.second w.third ≡ false → (w.first ≡ 60 → ⊥) → starts_ident w.first w.second w.third ≡ false → s1 ≡ past 1 sl → r ≡ sign_read w.first → Reads c0 s (found_from (codes s)) c0 r s1
   unfolding found_by sign_at
-  token_sign c0 r s1 nw nq nh na nn nc nl h e q =
+  token_sign {c0 = c0} {r = r} {s1 = s1} nw nq nh na nn nc nl h e q =
       let rest = drop 1 (codes s) in
       said (found_by_lem sign (branch_sign _ _ _ _ nw nq nh na nn nc nl h) ∙ ap (λ x. sign_at x rest) (sym (first_is s.list w seen)))
       (by (same_kind (sign_kind w.first) Delim) q)

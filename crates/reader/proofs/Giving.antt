@@ -2,6 +2,7 @@
 use Rattle.std.proofs.Common.{◌≡◌, ℕ, ◌+◌, ◌≤◌, Bool, true, false, cond, ltb, ◌⊎◌, List, [], ◌∷◌, ◌++◌, length, take, drop, Some, None, Ok, Err, Result, sym, refl, ap, ◌∙◌, subst, inl, inr, append_assoc, arith, take_all}
 use lib.Seq.{take-append_seam, drop-append_seam}
 use Rattle.std.proofs.lemmas.Bool.{cond-false, le-ltb, ltb-false}
+use Rattle.std.proofs.lemmas.List.{drop-drop}
 use Rattle.codepoint.specs.Utf8.{code_points_of}
 use Rattle.refusal.specs.declared.fault.Fault.{Fault}
 use Rattle.refusal.specs.declared.fault.Fault.TheVariants.{Outgrown}
@@ -15,15 +16,16 @@ use Rattle.syntax.specs.Reading.{Found, Next as Reached, Yields, found_at, next,
 use Rattle.syntax.specs.Reading.Next.{end, token}
 use Rattle.syntax.specs.Extents.{before, taken, taken_at, collected, collected_at}
 use Rattle.syntax.proofs.Chains.{yields_once}
+use Rattle.syntax.proofs.Remains.{left_behind, rest_behind}
 use Rattle.lookahead.specs.Ahead.{Ahead, codes, past}
-use Rattle.scan.proofs.States.{codes_past, drop_drop}
+use Rattle.scan.proofs.States.{codes_past}
 use Rattle.reader.specs.declared.answer.Located.{Located}
 use Rattle.reader.specs.declared.answer.Next.{Next}
 use Rattle.reader.specs.declared.answer.Next.TheVariants.{Token, End}
 use Rattle.reader.specs.NextToken.{Model, NextToken, NextTokenFrom, answered, begun, end_answer, located, overwritten, place_of, unless_stopped}
 use Rattle.reader.specs.Readings.{GivesTheTokens, Reading, value_in}
 use Rattle.reader.specs.Readings.Reading.{ended, gave}
-use Rattle.reader.proofs.Cutting.{beyond_is_end, cut_exactly, rest_is_end, bad_has_no_unit}
+use Rattle.reader.proofs.Cutting.{cut_exactly, bad_has_no_unit}
 
 -- a token was given, so there is one, and the cells hold it
 record GivenToken (cap : ℕ) (v : Ahead) (n : Reached) (t : Located) : Type 0 where
@@ -76,7 +78,7 @@ module _ (value : TokenValue) (rest : List ℕ) where
   rest_cut : (p : List ℕ) → next_at p ≡ token value rest → drop (taken_at p) p ≡ rest
   unfolding next_at
   rest_cut [] h = absurd (cc h)
-  rest_cut (a ∷ s) h = cut_exactly (rest_is_end a s) ∙ cc h
+  rest_cut (a ∷ s) h = let b = rest_behind a s in cut_exactly (a ∷ s) (a ∷ b.front) (found_at a s).rest (ap {B = List ℕ} (λ t. a ∷ t) b.whole) ∙ cc h
 
   value_held : (p : List ℕ) → next_at p ≡ token value rest → (n : ℕ) (x : List ℕ) → value_in (located n value) (collected_at p ++ x) ≡ value
   unfolding next_at
@@ -87,7 +89,9 @@ module _ (value : TokenValue) (rest : List ℕ) where
 
   pub rest_follows : (s : List ℕ) → next s ≡ token value rest → drop (before s + taken s) s ≡ rest
   unfolding next before taken
-  rest_follows s h = sym (drop_drop (taken s) (before s) s) ∙ ap (drop (taken s)) (cut_exactly (beyond_is_end in_comments s)) ∙ rest_cut (past_comments s) h
+  rest_follows s h =
+      let b = left_behind in_comments 0 s in
+      sym (drop-drop (taken s) (before s) s) ∙ ap (drop (taken s)) (cut_exactly s b.front (past_comments s) b.whole) ∙ rest_cut (past_comments s) h
 
   pub value_stands : (s : List ℕ) → next s ≡ token value rest → (n : ℕ) (cells : List ℕ) → length (collected s) ≤ length cells → value_in (located n value) (overwritten cells (collected s)) ≡ value
   unfolding next collected

@@ -1,51 +1,47 @@
 -- The name of an ident-like token, held back until it is known whether it goes into the cells.
-use Rattle.std.proofs.Common.{◌≡◌, ℕ, suc, ◌+◌, true, false, ◌&&◌, ◌||◌, eqb, List, [], ◌∷◌, ◌++◌, length, get_or, drop, Some, None, Option, sym, refl, ap, ◌∙◌, append_assoc, append-nil, arith}
+use Rattle.std.proofs.Common.{◌≡◌, ℕ, suc, ◌+◌, true, false, ◌&&◌, eqb, List, [], ◌∷◌, ◌++◌, length, get_or, drop, Some, None, Option, sym, refl, ap, ◌∙◌, append_assoc, append-nil, arith}
 use Rattle.std.specs.Option.{option_to_list}
 use Rattle.std.proofs.lemmas.Bool.{both_ways, ne_eqb, eq-eqb, eqb-true, and_parts, and_from}
 use Rattle.std.proofs.lemmas.List.{nil_from_length}
 use Rattle.std.proofs.lemmas.Bool.Decides.{nat_tests}
-use Rattle.codepoint.specs.Classes.{is_ident, is_ident_start, is_letter, is_digit, is_whitespace}
+use Rattle.codepoint.specs.Classes.{is_ident, is_ident_start, is_letter, is_digit}
 use Rattle.codepoint.specs.Starts.{is_valid_escape}
-use Rattle.stream.specs.Sources.Ending.{ends}
 use Rattle.syntax.specs.declared.kind.Kind.TheVariants.{Function, Ident}
 use Rattle.syntax.specs.Points.{left_paren}
 use Rattle.syntax.specs.Rules.{collect, beyond}
 use Rattle.syntax.specs.Rules.Step.{halt}
 use Rattle.syntax.specs.Escapes.{in_ident, escape}
-use Rattle.syntax.specs.Bodies.{in_extra_whitespace, is_quote, past_whitespace}
-use Rattle.syntax.specs.Reading.{is_url, quote_comes, url_at, url_or_function, end_name, ident_like_at}
+use Rattle.syntax.specs.Bodies.{in_extra_whitespace}
+use Rattle.syntax.specs.Reading.{is_url, url_or_function, end_name, ident_like_at}
 use Rattle.lookahead.specs.declared.ahead.Peek.{Peek}
 use Rattle.lookahead.specs.Ahead.{Ahead, Left, codes, past, peeked}
 use Rattle.scan.specs.declared.cells.Cells.{Cells}
-use Rattle.scan.specs.Fills.{Collects}
-use Rattle.scan.proofs.States.{Gives, given_first, turn_out, turn_left, stop_out, stop_left, past_one, past_past, codes_past, left_all, left_then}
+use Rattle.scan.specs.Fills.{Collects, Puts}
+use Rattle.scan.proofs.States.{Gives, given_first, turn_out, turn_left, stop_out, stop_left, past_one, past_past, codes_past}
 use Rattle.scan.proofs.Turns.{collects_then, collects_said}
 use Rattle.scan.proofs.Arms.{name_one, name_escape, name_stop}
 use Rattle.reader.specs.declared.held.Held.{Held}
 use Rattle.reader.specs.declared.read.Read.{Read}
-use Rattle.reader.specs.Reads.{Reads, opens_quote, texted_read}
-use Rattle.reader.specs.Holding.{Begun, Holding, Puts, held_text}
+use Rattle.reader.specs.Reads.{Reads, texted_read}
+use Rattle.reader.specs.Holding.{Begun, Holding, held_text}
 use Rattle.reader.proofs.Textual.{said, read_behind, textual, first_shown, left_stays, left_bumps}
 
 -- one code point of an identifier
-module _ (s sl : Ahead) (w : Peek) (l : sl ≡ s) (seen : w ≡ peeked s.list) where
-  pub begun_plain : (s' : Ahead) → is_ident w.first ≡ true → s' ≡ past 1 sl → Begun s (Some w.first) s'
-  begun_plain s' h e =
+module _ {s sl : Ahead} {w : Peek} (l : sl ≡ s) (seen : w ≡ peeked s.list) where
+  pub begun_plain : {s' : Ahead} → is_ident w.first ≡ true → s' ≡ past 1 sl → Begun s (Some w.first) s'
+  begun_plain {s' = s'} h e =
       let g = name_one s.list w seen h in
       let e' = e ∙ ap (past 1) l in
       record { given = turn_out in_ident s s' _ 0 g e'; same_left = turn_left in_ident s s' _ 0 g e'; stop = λ y. absurd (cc y); count = 1; passed = e' }
 
-  pub begun_escape : (s1 s' : Ahead) (v : ℕ) → is_ident w.first ≡ false → is_valid_escape w.first w.second ≡ true → s1 ≡ past 1 sl → v ≡ (escape (codes s1)).0 → s' ≡ past (escape (codes s1)).1 s1 → Begun s (Some v) s'
-  begun_escape s1 s' v h k e1 ev e =
+  pub begun_escape : {s1 s' : Ahead} {v : ℕ} → is_ident w.first ≡ false → is_valid_escape w.first w.second ≡ true → s1 ≡ past 1 sl → v ≡ (escape (codes s1)).0 → s' ≡ past (escape (codes s1)).1 s1 → Begun s (Some v) s'
+  begun_escape {s1 = s1} {s' = s'} {v = v} h k e1 ev e =
       let g = name_escape s.list w seen h k in
       let e1' = e1 ∙ ap (past 1) l in
       let d : codes s1 ≡ drop 1 (codes s) = ap codes e1' ∙ codes_past 1 s in
       let ev' : v ≡ (escape (drop 1 (codes s))).0 = ev ∙ ap (λ t. (escape t).0) d in
       let e' : s' ≡ past (suc (escape (drop 1 (codes s))).1) s = e ∙ ap (λ t. past (escape t).1 s1) d ∙ ap (past (escape (drop 1 (codes s))).1) e1' ∙ past_one _ s in
       record { given = rw ev' (turn_out in_ident s s' _ _ g e'); same_left = turn_left in_ident s s' _ _ g e'; stop = λ y. absurd (cc y); count = suc (escape (drop 1 (codes s))).1; passed = e' }
-
-  pub begun_none : is_ident w.first ≡ false → is_valid_escape w.first w.second ≡ false → Begun s None sl
-  begun_none h k = record { given = ap (λ x. collect in_ident (codes x)) (sym l); same_left = ap (λ x. beyond in_ident (codes x)) l; stop = λ _. name_stop s.list w seen h k; count = 0; passed = l }
 
 -- how long the parts are
 parts : (x y z : Option ℕ) (u0 u1 u2 u3 : List ℕ) → u0 ≡ option_to_list x ++ u1 → u1 ≡ option_to_list y ++ u2 → u2 ≡ option_to_list z ++ u3 → (x ≡ None → u0 ≡ []) → (y ≡ None → u1 ≡ []) → (z ≡ None → u2 ≡ []) → length u0 ≡ 3 → length u3 ≡ 0
@@ -54,8 +50,8 @@ parts x None (Some z) u0 u1 u2 u3 ex ey ez nx ny nz n = let a = ap length (ny re
 parts None (Some y) (Some z) u0 u1 u2 u3 ex ey ez nx ny nz n = let a = ap length (nx refl) in absurd (omega arith)
 parts (Some x) (Some y) (Some z) u0 u1 u2 u3 ex ey ez nx ny nz n = let a = ap length ex in let b = ap length ey in let d = ap length ez in omega arith
 
-pub holding : (w0 w1 w2 w3 : Ahead) (x y z : Option ℕ) → Begun w0 x w1 → Begun w1 y w2 → Begun w2 z w3 → Holding w0 (record { first = x; second = y; third = z }) w3
-holding w0 w1 w2 w3 x y z a b c = record {
+pub holding : {w0 w1 w2 w3 : Ahead} {x y z : Option ℕ} → Begun w0 x w1 → Begun w1 y w2 → Begun w2 z w3 → Holding w0 (record { first = x; second = y; third = z }) w3
+holding {w0} {w1} {w2} {w3} {x} {y} {z} a b c = record {
   given_so = a.given ∙ ap (λ t. option_to_list x ++ t) (b.given ∙ ap (λ t. option_to_list y ++ t) c.given) ∙ sym (append_assoc (option_to_list x) (option_to_list y ++ option_to_list z) _ ∙ ap (λ t. option_to_list x ++ t) (append_assoc (option_to_list y) (option_to_list z) _));
   left_as = c.same_left ∙ b.same_left ∙ a.same_left;
   short = λ n. nil_from_length _ (parts x y z _ _ _ _ a.given b.given c.given (λ h. stop_out in_ident (codes w0) (a.stop h)) (λ h. stop_out in_ident (codes w1) (b.stop h)) (λ h. stop_out in_ident (codes w2) (c.stop h)) n);
@@ -83,36 +79,11 @@ paren_stops b = (refl, refl)
 url_has_three : (t : List ℕ) → is_url t ≡ true → length t ≡ 3
 url_has_three t h = grind (arith, nat_tests)
 
--- what is put into cells, while so much of the input was passed over
-puts_collect : {c c' : Cells} {w w' : Ahead} {t r : List ℕ} → Puts c t c' → Left w r w' → Collects c w t r c' w'
-puts_collect p e = record { cells = p.cells; fill = p.fill; same_cells = p.same_cells; left = e }
-
--- behind `(`
-module _ (h : Held) (s : Ahead) (c0 : Cells) (s1 sl : Ahead) (w : Peek) (k : Left s (beyond in_extra_whitespace (codes s)) s1) (l : sl ≡ s1) (seen : w ≡ peeked s1.list) where
-  tests : quote_comes (beyond in_extra_whitespace (codes s)) ≡ opens_quote w.first w.second
-  unfolding opens_quote
-  tests = sym (ap (λ (t : Peek). is_quote t.first || (is_whitespace t.first && is_quote t.second)) seen ∙ ap quote_comes k.rest_is)
-
-  pub url_function : (c1 : Cells) (n : Option ℕ) → opens_quote w.first w.second ≡ true → Puts c0 (held_text h) c1 → n ≡ c1.filled → (d : Read) → d ≡ texted_read Function n → Reads c0 s (url_or_function (held_text h) (beyond in_extra_whitespace (codes s))) c1 d sl
-  unfolding url_or_function
-  url_function c1 n t p f d is =
-      let u = tests ∙ t in
-      rw (u, url_or_function) (textual Function (puts_collect p (left_all s s refl)) f (beyond in_extra_whitespace (codes s)) sl (left_stays k sl l) d is)
-
-  pub url_body : (c1 : Cells) (r : Read) (s2 s3 : Ahead) → opens_quote w.first w.second ≡ false → Left sl (past_whitespace (codes sl)) s2 → Reads c0 s2 (url_at (codes s2)) c1 r s3 → Reads c0 s (url_or_function (held_text h) (beyond in_extra_whitespace (codes s))) c1 r s3
-  unfolding url_or_function
-  url_body c1 r s2 s3 t e a =
-      let u = tests ∙ t in
-      let stays = left_stays k sl l in
-      let all = left_then stays e in
-      let text : codes s2 ≡ past_whitespace (beyond in_extra_whitespace (codes s)) = e.rest_is ∙ ap past_whitespace stays.rest_is in
-      rw (u, url_or_function) (said (ap url_at (sym text)) (read_behind all.count all.passed a))
-
 -- the whole token
-module _ (s : Ahead) (h : Held) (s1 sl : Ahead) (w : Peek) (a : Holding s h s1) (l : sl ≡ s1) (seen : w ≡ peeked s1.list) where
-  pub ident_url : (c0 c1 : Cells) (r : Read) (s2 s3 : Ahead) → true ≡ (eqb w.first 40 && is_url (held_text h)) → s2 ≡ past 1 sl → Reads c0 s2 (url_or_function (held_text h) (beyond in_extra_whitespace (codes s2))) c1 r s3 → Reads c0 s (ident_like_at (codes s)) c1 r s3
+module _ {s : Ahead} {h : Held} {s1 sl : Ahead} {w : Peek} (a : Holding s h s1) (l : sl ≡ s1) (seen : w ≡ peeked s1.list) where
+  pub ident_url : {c0 c1 : Cells} {r : Read} {s2 s3 : Ahead} → true ≡ (eqb w.first 40 && is_url (held_text h)) → s2 ≡ past 1 sl → Reads c0 s2 (url_or_function (held_text h) (beyond in_extra_whitespace (codes s2))) c1 r s3 → Reads c0 s (ident_like_at (codes s)) c1 r s3
   unfolding ident_like_at end_name
-  ident_url c0 c1 r s2 s3 y e b =
+  ident_url {s2 = s2} y e b =
       let y' = and_parts (eqb w.first 40) (is_url (held_text h)) (sym y) in
       let z : w.first ≡ 40 = eqb-true w.first 40 y'.0 in
       let u : is_url (held_text h) ≡ true = y'.1 in
@@ -136,33 +107,23 @@ module _ (s : Ahead) (h : Held) (s1 sl : Ahead) (w : Peek) (a : Holding s h s1) 
             absurd (n (sym (first_shown s1 _ w refl seen) ∙ ap (λ x. get_or x 0 0) (sym r-is) ∙ z) (ap is_url (sym t) ∙ u))
       ] refl
 
-  module _ (c0 c1 c2 : Cells) (s2 s3 : Ahead) (v : Peek) (other : false ≡ (eqb w.first 40 && is_url (held_text h))) (p : Puts c0 (held_text h) c1) (b : Collects c1 sl (collect in_ident (codes sl)) (beyond in_ident (codes sl)) c2 s2) (l2 : s3 ≡ s2) (seen2 : v ≡ peeked s2.list) (n : Option ℕ) (f : n ≡ c2.filled) where
+  module _ {c0 c1 c2 : Cells} {s2 s3 : Ahead} {v : Peek} (other : false ≡ (eqb w.first 40 && is_url (held_text h))) (p : Puts c0 (held_text h) c1) (b : Collects c1 sl (collect in_ident (codes sl)) (beyond in_ident (codes sl)) c2 s2) (l2 : s3 ≡ s2) (seen2 : v ≡ peeked s2.list) {n : Option ℕ} (f : n ≡ c2.filled) where
     whole : Collects c0 s (collect in_ident (codes s)) (beyond in_ident (codes s)) c2 s2
     whole =
         let t : held_text h ++ collect in_ident (codes sl) ≡ collect in_ident (codes s) = ap (λ q. held_text h ++ collect in_ident (codes q)) l ∙ sym a.given_so in
         let begun : Left s (codes sl) sl = record { count = a.held_count; passed = l ∙ a.held_past; rest_is = refl } in
-        collects_said refl t (ap (λ q. beyond in_ident (codes q)) l ∙ a.left_as) (collects_then (puts_collect p begun) b)
+        collects_said refl t (ap (λ q. beyond in_ident (codes q)) l ∙ a.left_as) (collects_then (record { puts = p; left = begun }) b)
 
-    pub ident_function : (s4 : Ahead) → v.first ≡ 40 → s4 ≡ past 1 s3 → (d : Read) → d ≡ texted_read Function n → Reads c0 s (ident_like_at (codes s)) c2 d s4
+    pub ident_function : {s4 : Ahead} → v.first ≡ 40 → s4 ≡ past 1 s3 → {d : Read} → d ≡ texted_read Function n → Reads c0 s (ident_like_at (codes s)) c2 d s4
     unfolding ident_like_at end_name
-    ident_function s4 z e d is =
+    ident_function {s4 = s4} z e {d = d} is =
         let h = first_shown s2 _ v whole.left.rest_is seen2 ∙ z in
         let k : eqb (get_or (beyond in_ident (codes s)) 0 0) left_paren ≡ true = eq-eqb _ 40 h in
         let u = not_url (λ y i. both_ways _ (sym other) (and_from _ _ (eq-eqb _ 40 y) i)) h in
         rw (k, u, end_name) (textual Function whole f (drop 1 (beyond in_ident (codes s))) s4 (left_bumps whole.left s3 s4 l2 e) d is)
 
-    pub ident_plain : (v.first ≡ 40 → ⊥) → (d : Read) → d ≡ texted_read Ident n → Reads c0 s (ident_like_at (codes s)) c2 d s3
+    pub ident_plain : (v.first ≡ 40 → ⊥) → {d : Read} → d ≡ texted_read Ident n → Reads c0 s (ident_like_at (codes s)) c2 d s3
     unfolding ident_like_at end_name
-    ident_plain z d is =
+    ident_plain z {d = d} is =
         let k : eqb (get_or (beyond in_ident (codes s)) 0 0) left_paren ≡ false = ne_eqb _ 40 (λ y. z (sym (first_shown s2 _ v whole.left.rest_is seen2) ∙ y)) in
         rw (k, end_name) (textual Ident whole f (beyond in_ident (codes s)) s3 (left_stays whole.left s3 l2) d is)
-
--- what is held, put into cells
-nowhere : Ahead
-nowhere = record { list = []; ending = ends 0 }
-
-pub held_put : {c0 c1 c2 c3 : Cells} {x y z : List ℕ} → Puts c0 x c1 → Puts c1 y c2 → Puts c2 z c3 → Puts c0 (x ++ (y ++ z)) c3
-held_put p q r =
-    let stays = left_all nowhere nowhere refl in
-    let t = collects_then (puts_collect p stays) (collects_then (puts_collect q stays) (puts_collect r stays)) in
-    record { cells = t.cells; fill = t.fill; same_cells = t.same_cells }

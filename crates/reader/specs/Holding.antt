@@ -5,8 +5,6 @@ use Rattle.syntax.specs.Rules.{collect, beyond}
 use Rattle.syntax.specs.Rules.Step.{halt}
 use Rattle.syntax.specs.Escapes.{in_ident}
 use Rattle.lookahead.specs.Ahead.{Ahead, codes, past}
-use Rattle.scan.specs.declared.cells.Cells.{Cells}
-use Rattle.scan.specs.Fills.{filled, laid}
 use Rattle.reader.specs.declared.held.Held.{Held}
 
 -- one code point of an identifier, if there is one
@@ -27,9 +25,3 @@ pub record Holding (w : Ahead) (h : Held) (w' : Ahead) : Type 0 where
   pub short : length (collect in_ident (codes w)) ≡ 3 → collect in_ident (codes w') ≡ []
   pub held_count : ℕ
   pub held_past : w' ≡ past held_count w
-
--- a text was put into the next cells, which stay the caller's
-pub record Puts (c : Cells) (text : List ℕ) (c' : Cells) : Type 0 where
-  pub cells : c'.cells.now ≡ laid c.cells.now c.filled text
-  pub fill : c'.filled ≡ filled (length c.cells.now) c.filled text
-  pub same_cells : c'.cells.ghost_name ≡ c.cells.ghost_name

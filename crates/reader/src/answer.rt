@@ -12,7 +12,7 @@ pub struct Located {
     pub place: usize,
 }
 
-/// A token, or the end with its place.
+/// A token, or the end. The end has a place, so it is neither an absence nor an error, and this is an enum of its own.
 #[derive(Clone, Copy, PartialEq, Eq, Debug)]
 pub enum Next {
     Token(Located),

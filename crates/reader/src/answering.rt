@@ -11,7 +11,6 @@ use codepoint::starts::EOF;
 use lookahead::Lookahead;
 use refusal::Fault;
 use scan::{Cells, skip_comments};
-use syntax::kind::Kind;
 
 /// The next token, the end or a refusal.
 pub fn answer_next<L: Lookahead>(input: &mut L, cells: &mut [u32]) -> Result<Next, Fault>
@@ -43,10 +42,7 @@ fn locate(read: Read, all: Option<usize>, place: usize) -> Result<Located, Fault
     Ok(Located {
         kind: read.kind,
         mark: read.mark,
-        text: match read.kind {
-            Kind::BadString | Kind::BadUrl => 0,
-            _ => text,
-        },
+        text: if read.kind.is_bad() { 0 } else { text },
         unit: all.saturating_sub(text),
         place,
     })

@@ -1,10 +1,12 @@
 //! The first code points of a name, held back until it is known whether the name goes into the cells.
-ghost use Rattle.reader.specs.Holding.{Puts, held_text};
+ghost use Rattle.reader.specs.Holding.{held_text};
+ghost use Rattle.scan.specs.Fills.{Puts};
 ghost use Rattle.std.specs.Option.{option_to_list};
 ghost use Rattle.syntax.specs.Reading.{is_url};
 ghost use Rattle.std.specs.Prelude.{◌≡◌, ◌&&◌, ◌==◌};
 
 use scan::Cells;
+use syntax::name;
 
 /// Up to three code points, as many as `url` has: in fixed memory, since the reader never allocates.
 #[derive(Clone, Copy)]
@@ -24,10 +26,10 @@ pub fn opens_url(next: u32, held: Held) -> bool
 fn is_url(held: Held) -> bool
     ensures { result ≡ is_url (held_text held) }
 {
-    matches!(
-        (held.first, held.second, held.third),
-        (Some(0x75 | 0x55), Some(0x72 | 0x52), Some(0x6c | 0x4c))
-    )
+    let (Some(a), Some(b), Some(c)) = (held.first, held.second, held.third) else {
+        return false;
+    };
+    name::is_url(&[a, b, c])
 }
 
 /// What is held, into the next cells.

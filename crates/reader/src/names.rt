@@ -36,6 +36,7 @@ pub fn read_ident_like<L: Lookahead>(input: &mut L, cells: &mut Cells<'_>) -> Re
 }
 
 /// Behind the `(` of a function named url: the function where a quote comes, else a url.
+#[tactic(auto, unfolding(syntax::specs::Reading::url_or_function, crate::specs::Reads::opens_quote))]
 fn read_url_or_function<L: Lookahead>(input: &mut L, held: Held, cells: &mut Cells<'_>) -> Read
     ensures { Reads cells.old (L.Lookahead.rest input.old) (url_or_function (held_text held) (beyond in_extra_whitespace (codes (L.Lookahead.rest input.old)))) cells.new result (L.Lookahead.rest input.new) }
 {
@@ -61,6 +62,7 @@ fn hold<L: Lookahead>(input: &mut L) -> Held
 }
 
 /// One code point of an identifier, if there is one.
+#[tactic(auto, unfolding(syntax::specs::Escapes::in_ident))]
 fn name_one<L: Lookahead>(input: &mut L) -> Option<u32>
     ensures { Begun (L.Lookahead.rest input.old) result (L.Lookahead.rest input.new) }
 {

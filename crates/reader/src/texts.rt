@@ -13,6 +13,7 @@ use scan::{
 use syntax::kind::Kind;
 
 /// A string, from behind its quote.
+#[tactic(auto, unfolding(syntax::specs::Reading::end_string, syntax::specs::Reading::string_at))]
 pub fn read_string<L: Lookahead>(input: &mut L, quote: u32, cells: &mut Cells<'_>) -> Read
     ensures { Reads cells.old (L.Lookahead.rest input.old) (string_at quote (codes (L.Lookahead.rest input.old))) cells.new result (L.Lookahead.rest input.new) }
 {
@@ -47,6 +48,7 @@ pub fn read_hash<L: Lookahead>(input: &mut L, cells: &mut Cells<'_>) -> Read
 }
 
 /// From behind `@`: an at-keyword, or the sign.
+#[tactic(auto, unfolding(scan::specs::Fills::filled, scan::specs::Fills::laid))]
 pub fn read_at<L: Lookahead>(input: &mut L, cells: &mut Cells<'_>) -> Read
     ensures { Reads cells.old (L.Lookahead.rest input.old) (at_found (codes (L.Lookahead.rest input.old))) cells.new result (L.Lookahead.rest input.new) }
 {
@@ -58,6 +60,7 @@ pub fn read_at<L: Lookahead>(input: &mut L, cells: &mut Cells<'_>) -> Read
 }
 
 /// A number, a percentage or a dimension.
+#[tactic(auto, unfolding(syntax::specs::Reading::end_number, syntax::specs::Reading::numeric_at))]
 pub fn read_number<L: Lookahead>(input: &mut L, cells: &mut Cells<'_>) -> Read
     ensures { Reads cells.old (L.Lookahead.rest input.old) (numeric_at (codes (L.Lookahead.rest input.old))) cells.new result (L.Lookahead.rest input.new) }
 {

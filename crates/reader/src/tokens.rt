@@ -54,6 +54,7 @@ pub fn read_token<L: Lookahead>(input: &mut L, cells: &mut Cells<'_>) -> Read
 }
 
 /// From behind `<`: `<!--`, or the sign.
+#[tactic(auto, unfolding(scan::specs::Fills::filled, scan::specs::Fills::laid))]
 fn read_less<L: Lookahead>(input: &mut L) -> Read
     ensures { (cells : Cells) → Reads cells (L.Lookahead.rest input.old) (less_found (codes (L.Lookahead.rest input.old))) cells result (L.Lookahead.rest input.new) }
 {

@@ -5,3 +5,5 @@
 mod ending;
 #[cfg(test)]
 mod small_buffers;
+#[cfg(test)]
+mod tokens;

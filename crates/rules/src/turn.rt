@@ -1,10 +1,10 @@
 //! Which token is in turn, by what the tokens so far make a writer wait for.
-ghost use Rattle.syntax.specs.Reading.{is_url};
 ghost use Rattle.syntax.specs.Tokens.{value_of};
 ghost use Rattle.syntax.specs.Turn.{is_in_turn, waiting_after};
 ghost use Rattle.std.specs.Prelude.{◌≡◌};
 
 use syntax::kind::Kind;
+use syntax::name::is_url;
 use syntax::token::Token;
 use syntax::waiting::Waiting;
 
@@ -32,11 +32,4 @@ pub fn waiting_after(waiting: Waiting, token: Token<'_>) -> Waiting
         (_, Kind::Function) if is_url(token.text) => Waiting::AfterUrl,
         (_, _) => Waiting::Free,
     }
-}
-
-/// The name `url` in any ASCII case. The reader asks this of three code points that it holds back, in no slice.
-fn is_url(name: &[u32]) -> bool
-    ensures { result ≡ is_url name.now }
-{
-    matches!(name, [0x75 | 0x55, 0x72 | 0x52, 0x6c | 0x4c])
 }

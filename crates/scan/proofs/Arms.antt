@@ -9,6 +9,7 @@ use Rattle.syntax.specs.Rules.{Step}
 use Rattle.syntax.specs.Rules.Step.{halt}
 use Rattle.syntax.specs.Bodies.{ends_url}
 use Rattle.syntax.specs.Escapes.{in_ident, escape}
+use Rattle.syntax.proofs.EscapeRules.{ident_escape, ident_stays, ident_stops}
 use Rattle.lookahead.specs.declared.ahead.Peek.{Peek}
 use Rattle.lookahead.specs.Ahead.{EndsAtZero, peeked}
 use Rattle.scan.proofs.States.{Gives}
@@ -33,19 +34,17 @@ GivesEscape f t = Gives f t ((escape (drop 1 t)).0 ∷ []) (escape (drop 1 t)).1
 
 -- identifiers
 ident_one : (t : List ℕ) → is_ident (get_or t 0 0) ≡ true → Gives in_ident t (get_or t 0 0 ∷ []) 0
-unfolding in_ident
 ident_one [] h = absurd (both_ways _ no_ident h)
-ident_one (c ∷ t) h = record { some = omega arith; says = rw (h, in_ident) }
+ident_one (c ∷ t) h = record { some = omega arith; says = ident_stays c t h }
 
 ident_esc : (t : List ℕ) → is_ident (get_or t 0 0) ≡ false → is_valid_escape (get_or t 0 0) (get_or t 1 0) ≡ true → GivesEscape in_ident t
-unfolding in_ident
 ident_esc [] h k = absurd (both_ways _ no_escape k)
-ident_esc (c ∷ t) h k = record { some = omega arith; says = rw (h, k, in_ident) }
+ident_esc (c ∷ t) h k = record { some = omega arith; says = ident_escape c t h k }
 
 ident_stop : (t : List ℕ) → is_ident (get_or t 0 0) ≡ false → is_valid_escape (get_or t 0 0) (get_or t 1 0) ≡ false → in_ident t ≡ halt
 unfolding in_ident
 ident_stop [] h k = refl
-ident_stop (c ∷ t) h k = rw (h, k, in_ident) refl
+ident_stop (c ∷ t) h k = ident_stops c t h k
 
 -- the same by what the window shows
 module _ (ps : List Placed) (w : Peek) (seen : w ≡ peeked ps) where

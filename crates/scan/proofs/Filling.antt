@@ -1,5 +1,6 @@
 -- Cells that are set one after another.
-use Rattle.std.proofs.Common.{◌≡◌, ℕ, suc, ◌+◌, ◌<◌, ◌≤◌, cond, ltb, List, [], ◌∷◌, ◌++◌, length, take, drop, set, Some, None, sym, refl, ap, ◌∙◌, ⊎_elim, append_assoc, append-nil, add-zero, zero-add, arith, length-append}
+use Rattle.std.proofs.Common.{◌≡◌, ℕ, suc, ◌+◌, ◌<◌, ◌≤◌, cond, ltb, List, [], ◌∷◌, ◌++◌, length, take, drop, Some, None, sym, refl, ap, ◌∙◌, ⊎_elim, append_assoc, append-nil, add-zero, zero-add, arith, length-append}
+use Rattle.std.proofs.Math.Seq.{set-append_seam}
 use Rattle.std.proofs.lemmas.Bool.{cases_lt, cond-true, cond-false, lt-ltb, le-ltb}
 use Rattle.std.proofs.lemmas.List.{set_past}
 use Rattle.scan.specs.Fills.{onto, filled, laid, empty}
@@ -40,10 +41,6 @@ unfolding lay
 lay_none [] = refl
 lay_none (c ∷ t) = refl
 
-set_at : (pre cells : List ℕ) (x c : ℕ) → set (pre ++ x ∷ cells) (length pre) c ≡ (pre ++ c ∷ []) ++ cells
-set_at [] cells x c = refl
-set_at (p ∷ pre) cells x c = ap {B = List ℕ} (λ t. p ∷ t) (set_at pre cells x c)
-
 laid_none : (cells t : List ℕ) → laid cells None t ≡ cells
 unfolding laid
 laid_none cells [] = refl
@@ -59,7 +56,7 @@ laid_front pre [] (c ∷ t) =
 laid_front pre (x ∷ cells) (c ∷ t) =
     let n = length-append pre (x ∷ cells) in
     let m : length pre + 1 ≡ length (pre ++ c ∷ []) = omega (arith, length-append pre (c ∷ [])) in
-    (λ i. laid (set_at pre cells x c i) ((onto_within (length (pre ++ x ∷ cells)) (length pre) (omega arith) ∙ ap Some m) i) t)
+    (λ i. laid ((set-append_seam pre x cells c ∙ sym (append_assoc pre (c ∷ []) cells)) i) ((onto_within (length (pre ++ x ∷ cells)) (length pre) (omega arith) ∙ ap Some m) i) t)
     ∙ laid_front (pre ++ c ∷ []) cells t
     ∙ append_assoc pre (c ∷ []) (lay cells t)
 

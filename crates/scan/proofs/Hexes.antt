@@ -5,6 +5,7 @@ use Rattle.std.proofs.lemmas.Bool.{both_ways}
 use Rattle.std.proofs.lemmas.Bool.Decides.{nat_tests}
 use Rattle.codepoint.specs.Classes.{is_hex_digit, hex_value, hex_value_if_any}
 use Rattle.syntax.specs.Escapes.{hex_escape}
+use Rattle.syntax.proofs.EscapeRules.{hex_more}
 use Rattle.lookahead.specs.declared.ahead.Peek.{Peek}
 use Rattle.lookahead.specs.Ahead.{Ahead, codes, past, peeked}
 use Rattle.scan.proofs.States.{codes_past, one_past}
@@ -37,9 +38,8 @@ unfolding is_hex_digit
 no_hex = refl
 
 one_more : (n v : ℕ) (m : ℕ) (s : List ℕ) → is_hex_digit (get_or s 0 0) ≡ true → hex_escape (suc m) v n s ≡ hex_escape m (v * 16 + hex_value (get_or s 0 0)) (suc n) (drop 1 s)
-unfolding hex_escape
 one_more n v m [] h = absurd (both_ways _ no_hex h)
-one_more n v m (c ∷ s) h = rw (h, hex_escape)
+one_more n v m (c ∷ s) h = hex_more c s m v n h
 
 pub digit_turn : (s0 s s' : Ahead) (w : Peek) (n v h : ℕ) → Sofar s0 n v s → n < 6 → w ≡ peeked s.list → Some h ≡ hex_value_if_any w.first → s' ≡ past 1 s → Sofar s0 (n + 1) (v * 16 + h) s'
 digit_turn s0 s s' w n v h so k seen e p =

@@ -5,7 +5,7 @@ use Rattle.syntax.specs.Numbers.{digits, past_digits, sign_length, fraction_leng
 use Rattle.lookahead.specs.declared.ahead.Peek.{Peek}
 use Rattle.lookahead.specs.Ahead.{Ahead, codes, past, peeked}
 use Rattle.scan.specs.declared.cells.Cells.{Cells}
-use Rattle.scan.specs.Fills.{Collects, onto, set_next}
+use Rattle.scan.specs.Fills.{Collects, Puts}
 use Rattle.scan.proofs.Turns.{collects_then, collects_said, one_collected}
 use Rattle.scan.proofs.Arms.{first_is}
 
@@ -13,10 +13,10 @@ use Rattle.scan.proofs.Arms.{first_is}
 abbrev pub Taken : Cells → Ahead → ℕ → Cells → Ahead → Type 0
 Taken c0 s0 n c s = Collects c0 s0 (take n (codes s0)) (drop n (codes s0)) c s
 
-pub one_taken : (s0 s s' : Ahead) (n : ℕ) (w : Peek) (c0 c1 c2 : Cells) → Taken c0 s0 n c1 s → n < length (codes s0) → w ≡ peeked s.list → s' ≡ past 1 s → c2.cells.now ≡ set_next c1.cells.now c1.filled w.first → c2.filled ≡ onto (length c1.cells.now) c1.filled → c2.cells.ghost_name ≡ c1.cells.ghost_name → Taken c0 s0 (n + 1) c2 s'
-one_taken s0 s s' n w c0 c1 c2 a l seen e h i k =
+pub one_taken : (s0 s s' : Ahead) (n : ℕ) (w : Peek) (c0 c1 c2 : Cells) → Taken c0 s0 n c1 s → n < length (codes s0) → w ≡ peeked s.list → s' ≡ past 1 s → Puts c1 (w.first ∷ []) c2 → Taken c0 s0 (n + 1) c2 s'
+one_taken s0 s s' n w c0 c1 c2 a l seen e p =
     let v : w.first ≡ get_or (codes s0) n 0 = first_is s.list w seen ∙ ap (λ t. get_or t 0 0) a.left.rest_is ∙ get_or-drop n (codes s0) 0 0 ∙ ap (λ k. get_or (codes s0) k 0) (add-zero n) in
-    collects_said refl (ap (λ x. take n (codes s0) ++ x ∷ []) v ∙ sym (take_more (codes s0) n 0 l)) (ap (drop 1) a.left.rest_is ∙ drop-drop 1 n (codes s0)) (collects_then a (one_collected c1 w.first c2 s s' e h i k))
+    collects_said refl (ap (λ x. take n (codes s0) ++ x ∷ []) v ∙ sym (take_more (codes s0) n 0 l)) (ap (drop 1) a.left.rest_is ∙ drop-drop 1 n (codes s0)) (collects_then a (one_collected c1 w.first c2 s s' e p))
 
 -- and the digits behind them
 pub part_collected : (s0 s s' : Ahead) (n : ℕ) (c0 c1 c2 : Cells) → Taken c0 s0 n c1 s → Collects c1 s (digits (codes s)) (past_digits (codes s)) c2 s' → Collects c0 s0 (part n [] (codes s0)).0 (part n [] (codes s0)).1 c2 s'

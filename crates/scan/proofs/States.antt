@@ -1,19 +1,17 @@
 -- What is left behind one thing and another.
 use Rattle.std.proofs.Common.{◌≡◌, ℕ, zero, suc, ◌+◌, ◌<◌, List, [], ◌∷◌, ◌++◌, length, drop, sym, refl, ap, ◌∙◌, arith}
 use Rattle.std.proofs.Math.Seq.{drop-nil}
-pub use Rattle.std.proofs.lemmas.List.{drop-drop as drop_drop}
+use Rattle.std.proofs.lemmas.List.{drop-drop}
+pub use Rattle.lookahead.proofs.Chunks.{same}
 use Rattle.codepoint.specs.Utf8.{code_points_of}
 use Rattle.stream.specs.Preprocess.{Placed}
-use Rattle.syntax.specs.Rules.{Step, out, left, gives, leaves, collect, beyond}
+use Rattle.syntax.specs.Rules.{Step, collect, beyond}
 use Rattle.syntax.specs.Rules.Step.{halt, give}
+use Rattle.syntax.proofs.Takes.{left_step, out_step, stops_at}
 use Rattle.lookahead.specs.Ahead.{Ahead, Left, codes, past}
 
--- two are the same when their parts are
-pub same : (x y : Ahead) → x.list ≡ y.list → x.ending ≡ y.ending → x ≡ y
-same x y p q = λ i. record { list = p i; ending = q i }
-
 pub past_past : (m n : ℕ) (s : Ahead) → past m (past n s) ≡ past (n + m) s
-past_past m n s = same _ _ (drop_drop m n s.list) refl
+past_past m n s = same _ _ (drop-drop m n s.list) refl
 
 pub past_one : (n : ℕ) (s : Ahead) → past n (past 1 s) ≡ past (suc n) s
 past_one n s = same _ _ (go s.list) refl
@@ -65,37 +63,19 @@ pub record Gives {B : Type 0} (f : List ℕ → Step B) (s : List ℕ) (v : List
   pub says : f s ≡ give v k
 
 module _ {B : Type 0} (f : List ℕ → Step B) where
-  out_skips : (k : ℕ) (s : List ℕ) → out f k s ≡ out f 0 (drop k s)
-  unfolding out
-  out_skips zero s = refl
-  out_skips (suc k) [] = refl
-  out_skips (suc k) (c ∷ s) = out_skips k s
-
-  left_skips : (k : ℕ) (s : List ℕ) → left f k s ≡ left f 0 (drop k s)
-  unfolding left
-  left_skips zero s = refl
-  left_skips (suc k) [] = refl
-  left_skips (suc k) (c ∷ s) = left_skips k s
-
   pub given_first : (s : List ℕ) (v : List B) (k : ℕ) → Gives f s v k → collect f s ≡ v ++ collect f (drop (suc k) s)
-  unfolding out
   given_first [] v k h = let z = h.some in absurd (omega arith)
-  given_first (c ∷ s) v k h = ap (λ x. gives x (λ k. out f k s)) h.says ∙ ap (λ x. v ++ x) (out_skips k s)
+  given_first (c ∷ s) v k h = out_step f c s v k h.says
 
   left_behind : (s : List ℕ) (v : List B) (k : ℕ) → Gives f s v k → beyond f s ≡ beyond f (drop (suc k) s)
-  unfolding left
   left_behind [] v k h = let z = h.some in absurd (omega arith)
-  left_behind (c ∷ s) v k h = ap (λ x. leaves x (c ∷ s) (λ k. left f k s)) h.says ∙ left_skips k s
+  left_behind (c ∷ s) v k h = left_step f c s v k h.says
 
   pub stop_out : (s : List ℕ) → f s ≡ halt → collect f s ≡ []
-  unfolding out
-  stop_out [] h = refl
-  stop_out (c ∷ s) h = ap (λ x. gives x (λ k. out f k s)) h
+  stop_out s h = (stops_at f s h).0
 
   pub stop_left : (s : List ℕ) → f s ≡ halt → beyond f s ≡ s
-  unfolding left
-  stop_left [] h = refl
-  stop_left (c ∷ s) h = ap (λ x. leaves x (c ∷ s) (λ k. left f k s)) h
+  stop_left s h = (stops_at f s h).1
 
   -- a turn takes one code point and k more
   module _ (s s' : Ahead) (v : List B) (k : ℕ) (h : Gives f (codes s) v k) (e : s' ≡ past (suc k) s) where

@@ -9,9 +9,9 @@ use Rattle.lookahead.specs.declared.ahead.Peek.{Peek}
 use Rattle.lookahead.specs.Ahead.{Ahead, EndsAtZero, Left, codes, past, peeked}
 use Rattle.scan.specs.declared.cells.Cells.{Cells}
 use Rattle.scan.specs.declared.rule.Turn.{Turn}
-use Rattle.scan.specs.Fills.{Collects, onto, filled, set_next, laid}
+use Rattle.scan.specs.Fills.{Collects, Puts, onto, filled, set_next, laid}
 use Rattle.scan.specs.Turns.{Says, step_of}
-use Rattle.scan.proofs.States.{Gives, turn_out, turn_left, stop_out, stop_left, past_one, past_past, codes_past, length_codes, left_then}
+use Rattle.scan.proofs.States.{Gives, turn_out, turn_left, stop_out, stop_left, past_one, past_past, codes_past, length_codes, left_past, left_then}
 use Rattle.scan.proofs.Arms.{first_is, second_is}
 
 length_set_next : (cells : List ℕ) (f : Option ℕ) (c : ℕ) → length (set_next cells f c) ≡ length cells
@@ -36,30 +36,43 @@ laid_more cells f (c ∷ t) u =
     laid_more (set_next cells f c) (onto (length cells) f) t u
     ∙ ap (λ n. laid (laid (set_next cells f c) (onto (length cells) f) t) (filled n (onto (length cells) f) t) u) (length_set_next cells f c)
 
+-- what a further text does behind one that was put
+module _ {c : Cells} {t : List ℕ} {c1 : Cells} (p : Puts c t c1) (u : List ℕ) where
+  laid_behind : laid c1.cells.now c1.filled u ≡ laid c.cells.now c.filled (t ++ u)
+  laid_behind = (λ i. laid (p.cells i) (p.fill i) u) ∙ sym (laid_more c.cells.now c.filled t u)
+
+  filled_behind : filled (length c1.cells.now) c1.filled u ≡ filled (length c.cells.now) c.filled (t ++ u)
+  filled_behind =
+      let cap = length c.cells.now in
+      (λ i. filled (length (p.cells i)) (p.fill i) u) ∙ ap (λ n. filled n (filled cap c.filled t) u) (length_laid c.cells.now c.filled t) ∙ sym (filled_more cap c.filled t u)
+
+-- nothing was put
+pub puts_none : (c : Cells) → Puts c [] c
+unfolding laid filled
+puts_none c = record { cells = refl; fill = refl; same_cells = refl }
+
+-- one text behind another
+pub puts_then : {c : Cells} {t : List ℕ} {c1 : Cells} {u : List ℕ} {c2 : Cells} → Puts c t c1 → Puts c1 u c2 → Puts c (t ++ u) c2
+puts_then {u = u} a b = record { cells = b.cells ∙ laid_behind a u; fill = b.fill ∙ filled_behind a u; same_cells = b.same_cells ∙ a.same_cells }
+
+-- the same in other words
+pub puts_said : {c : Cells} {t u : List ℕ} {c1 : Cells} → t ≡ u → Puts c t c1 → Puts c u c1
+puts_said e a = rw e at a
+
 -- one collecting behind another
 pub collects_then : {c : Cells} {w : Ahead} {t r : List ℕ} {c1 : Cells} {w1 : Ahead} {u s : List ℕ} {c2 : Cells} {w2 : Ahead} → Collects c w t r c1 w1 → Collects c1 w1 u s c2 w2 → Collects c w (t ++ u) s c2 w2
-collects_then {c} {w} {t} {r} {c1} {w1} {u} a b =
-    let cap = length c.cells.now in
-    record {
-      cells = b.cells ∙ (λ i. laid (a.cells i) (a.fill i) u) ∙ sym (laid_more c.cells.now c.filled t u);
-      fill = b.fill ∙ (λ i. filled (length (a.cells i)) (a.fill i) u) ∙ ap (λ n. filled n (filled cap c.filled t) u) (length_laid c.cells.now c.filled t) ∙ sym (filled_more cap c.filled t u);
-      same_cells = b.same_cells ∙ a.same_cells;
-      left = left_then a.left b.left;
-    }
+collects_then a b = record { puts = puts_then a.puts b.puts; left = left_then a.left b.left }
 
 -- the same in other words, from an equal input
 pub collects_said : {c : Cells} {w v : Ahead} {t u r s : List ℕ} {c1 : Cells} {w1 : Ahead} → w ≡ v → t ≡ u → r ≡ s → Collects c w t r c1 w1 → Collects c v u s c1 w1
-collects_said {c} k e q a = record {
-  cells = a.cells ∙ ap (laid c.cells.now c.filled) e;
-  fill = a.fill ∙ ap (filled (length c.cells.now) c.filled) e;
-  same_cells = a.same_cells;
+collects_said k e q a = record {
+  puts = puts_said e a.puts;
   left = record { count = a.left.count; passed = a.left.passed ∙ ap (past a.left.count) k; rest_is = a.left.rest_is ∙ q };
 }
 
--- one code point was put into the next cell
-pub one_collected : (c : Cells) (v : ℕ) (c' : Cells) (w w' : Ahead) → w' ≡ past 1 w → c'.cells.now ≡ set_next c.cells.now c.filled v → c'.filled ≡ onto (length c.cells.now) c.filled → c'.cells.ghost_name ≡ c.cells.ghost_name → Collects c w (v ∷ []) (drop 1 (codes w)) c' w'
-unfolding laid filled
-one_collected c v c' w w' e h i n = record { cells = h; fill = i; same_cells = n; left = record { count = 1; passed = e; rest_is = ap codes e ∙ codes_past 1 w } }
+-- one code point was collected
+pub one_collected : (c : Cells) (v : ℕ) (c' : Cells) (w w' : Ahead) → w' ≡ past 1 w → Puts c (v ∷ []) c' → Collects c w (v ∷ []) (drop 1 (codes w)) c' w'
+one_collected c v c' w w' e p = record { puts = p; left = left_past 1 w w' e }
 
 -- a turn of a rule, by what the window shows
 nonempty : (t : List ℕ) → (get_or t 0 0 ≡ 0 → ⊥) → 0 < length t
@@ -104,44 +117,38 @@ module _ (f : List ℕ → Step ℕ) where
     skip_done g s' e = record { count = h.count; passed = e ∙ h.passed; rest_is = ap codes e ∙ sym g ∙ h.same_left }
 
   module _ (c0 : Cells) (s0 : Ahead) (c : Cells) (s : Ahead) (h : Sofar c0 s0 c s) where
-    -- a turn that gives one code point
-    pub turn_one : (v k : ℕ) → Gives f (codes s) (v ∷ []) k → (c' : Cells) (s' : Ahead) → s' ≡ past (suc k) s → c'.cells.now ≡ set_next c.cells.now c.filled v → c'.filled ≡ onto (length c.cells.now) c.filled → c'.cells.ghost_name ≡ c.cells.ghost_name → Sofar c0 s0 c' s'
-    unfolding laid filled
-    turn_one v k g c' s' e q i n =
-        let o = turn_out f s s' (v ∷ []) k g e in
+    -- a turn, and what it gives is put
+    pub turn_put : (v : List ℕ) (k : ℕ) → Gives f (codes s) v k → (c' : Cells) (s' : Ahead) → s' ≡ past (suc k) s → Puts c v c' → Sofar c0 s0 c' s'
+    turn_put v k g c' s' e p =
+        let o = sym (turn_out f s s' v k g e) in
+        let t = collect f (codes s') in
         record {
-          same_end = rw (q, i) (sym (ap (laid c.cells.now c.filled) o) ∙ h.same_end);
-          same_fill = rw (q, i, length_set_next c.cells.now c.filled v) (sym (ap (filled (length c.cells.now) c.filled) o) ∙ h.same_fill);
-          same_cells = n ∙ h.same_cells;
-          skipped = skip_turn s0 s h.skipped (v ∷ []) k g s' e;
+          same_end = laid_behind p t ∙ ap (laid c.cells.now c.filled) o ∙ h.same_end;
+          same_fill = filled_behind p t ∙ ap (filled (length c.cells.now) c.filled) o ∙ h.same_fill;
+          same_cells = p.same_cells ∙ h.same_cells;
+          skipped = skip_turn s0 s h.skipped v k g s' e;
         }
 
-    -- a turn that gives none
     pub turn_none : (k : ℕ) → Gives f (codes s) [] k → (s' : Ahead) → s' ≡ past (suc k) s → Sofar c0 s0 c s'
-    turn_none k g s' e =
-        let o = turn_out f s s' [] k g e in
-        record {
-          same_end = sym (ap (laid c.cells.now c.filled) o) ∙ h.same_end;
-          same_fill = sym (ap (filled (length c.cells.now) c.filled) o) ∙ h.same_fill;
-          same_cells = h.same_cells;
-          skipped = skip_turn s0 s h.skipped [] k g s' e;
-        }
+    turn_none k g s' e = turn_put [] k g c s' e (puts_none c)
 
     -- a turn that gives an escape, read from s1
-    pub turn_escape : Gives f (codes s) ((escape (drop 1 (codes s))).0 ∷ []) (escape (drop 1 (codes s))).1 → (c' : Cells) (s1 s' : Ahead) (v : ℕ) → s1 ≡ past 1 s → v ≡ (escape (codes s1)).0 → s' ≡ past (escape (codes s1)).1 s1 → c'.cells.now ≡ set_next c.cells.now c.filled v → c'.filled ≡ onto (length c.cells.now) c.filled → c'.cells.ghost_name ≡ c.cells.ghost_name → Sofar c0 s0 c' s'
-    turn_escape g c' s1 s' v e1 ev e q i n =
+    pub turn_escape : Gives f (codes s) ((escape (drop 1 (codes s))).0 ∷ []) (escape (drop 1 (codes s))).1 → (c' : Cells) (s1 s' : Ahead) (v : ℕ) → s1 ≡ past 1 s → v ≡ (escape (codes s1)).0 → s' ≡ past (escape (codes s1)).1 s1 → Puts c (v ∷ []) c' → Sofar c0 s0 c' s'
+    turn_escape g c' s1 s' v e1 ev e p =
         let d : codes s1 ≡ drop 1 (codes s) = ap codes e1 ∙ codes_past 1 s in
         let ev' : v ≡ (escape (drop 1 (codes s))).0 = ev ∙ ap (λ t. (escape t).0) d in
         let e' : s' ≡ past (suc (escape (drop 1 (codes s))).1) s = e ∙ ap (λ t. past (escape t).1 s1) d ∙ ap (past (escape (drop 1 (codes s))).1) e1 ∙ past_one _ s in
-        turn_one (escape (drop 1 (codes s))).0 (escape (drop 1 (codes s))).1 g c' s' e' (q ∙ ap (set_next c.cells.now c.filled) ev') i n
+        turn_put ((escape (drop 1 (codes s))).0 ∷ []) (escape (drop 1 (codes s))).1 g c' s' e' (puts_said (ap (λ x. x ∷ []) ev') p)
 
     -- the last turn
     finish : collect f (codes s) ≡ [] → beyond f (codes s) ≡ codes s → (s' : Ahead) → s' ≡ s → Collects c0 s0 (collect f (codes s0)) (beyond f (codes s0)) c s'
     unfolding laid filled
     finish o g s' e = record {
-      cells = sym (ap (laid c.cells.now c.filled) o) ∙ h.same_end;
-      fill = sym (ap (filled (length c.cells.now) c.filled) o) ∙ h.same_fill;
-      same_cells = h.same_cells;
+      puts = record {
+        cells = sym (ap (laid c.cells.now c.filled) o) ∙ h.same_end;
+        fill = sym (ap (filled (length c.cells.now) c.filled) o) ∙ h.same_fill;
+        same_cells = h.same_cells;
+      };
       left = skip_done s0 s h.skipped g s' e;
     }
 

@@ -24,9 +24,13 @@ laid cells f (c ∷ t) = laid (set_next cells f c) (onto (length cells) f) t
 abbrev pub empty : Option ℕ
 empty = Some 0
 
--- a text was collected into the cells, which stay the caller's, and rest is left
-pub record Collects (c : Cells) (w : Ahead) (text rest : List ℕ) (c' : Cells) (w' : Ahead) : Type 0 where
+-- a text was put into the next cells, which stay the caller's
+pub record Puts (c : Cells) (text : List ℕ) (c' : Cells) : Type 0 where
   pub cells : c'.cells.now ≡ laid c.cells.now c.filled text
   pub fill : c'.filled ≡ filled (length c.cells.now) c.filled text
   pub same_cells : c'.cells.ghost_name ≡ c.cells.ghost_name
+
+-- a text was collected into the cells, and rest is left
+pub record Collects (c : Cells) (w : Ahead) (text rest : List ℕ) (c' : Cells) (w' : Ahead) : Type 0 where
+  pub puts : Puts c text c'
   pub left : Left w rest w'

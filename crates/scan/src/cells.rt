@@ -1,6 +1,6 @@
 //! Cells that are filled one after another. How many are is an `Option<usize>`: none, once something found no cell.
-ghost use Rattle.scan.specs.Fills.{onto, set_next};
-ghost use Rattle.std.specs.Prelude.{◌≡◌, Some, length};
+ghost use Rattle.scan.specs.Fills.{Puts};
+ghost use Rattle.std.specs.Prelude.{◌≡◌, ◌∷◌, [], Some};
 
 /// Cells lent by a caller, filled from the first on.
 #[derive(Drop)]
@@ -40,10 +40,9 @@ impl<'a> Cells<'a> {
     }
 
     /// One code point into the next cell, if there is one.
+    #[tactic(auto, unfolding(crate::specs::Fills::laid, crate::specs::Fills::filled))]
     pub fn put(&mut self, c: u32)
-        ensures cells { self.new.cells.now ≡ set_next self.old.cells.now self.old.filled c }
-        ensures fill { self.new.filled ≡ onto (length self.old.cells.now) self.old.filled }
-        ensures same { self.new.cells.ghost_name ≡ self.old.cells.ghost_name }
+        ensures { Puts self.old (c ∷ []) self.new }
     {
         let Cells { cells, filled } = self;
         *filled = match *filled {

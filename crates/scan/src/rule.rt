@@ -8,7 +8,7 @@ ghost use Rattle.syntax.specs.Rules.{Step, beyond, collect};
 use crate::cells::Cells;
 use crate::escapes::escape;
 use codepoint::starts::EOF;
-use lookahead::Lookahead;
+use lookahead::{Lookahead, Peek};
 
 /// What a rule says of the next code points.
 pub(crate) enum Turn {
@@ -28,9 +28,9 @@ pub(crate) enum Turn {
 pub(crate) trait Rule {
     ghost rule: { Self → List ℕ → Step ℕ };
 
-    /// What it says where `first` comes next and `second` behind that, or `EOF` where nothing does.
-    fn turn(&self, first: u32, second: u32) -> Turn
-        ensures { Says (rule self.now) first second result };
+    /// What it says where the first two of `seen` come next, `EOF` where nothing does.
+    fn turn(&self, seen: Peek) -> Turn
+        ensures { Says (rule self.now) seen.first seen.second result };
 }
 
 /// What a rule collects goes into the cells, and what it leaves is ahead.
@@ -42,7 +42,7 @@ pub(crate) fn collect<L: Lookahead, R: Rule>(input: &mut L, rule: &R, cells: &mu
         if seen.first == EOF {
             return;
         }
-        match rule.turn(seen.first, seen.second) {
+        match rule.turn(seen) {
             Turn::Halt => return,
             Turn::Take => {
                 input.bump();

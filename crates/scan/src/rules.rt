@@ -6,7 +6,8 @@ ghost use Rattle.syntax.specs.Escapes.{in_ident};
 
 use crate::rule::{Rule, Turn};
 use codepoint::class::{is_digit, is_ident, is_non_printable, is_whitespace};
-use codepoint::starts::{EOF, is_valid_escape};
+use codepoint::starts::EOF;
+use lookahead::Peek;
 
 /// An identifier: ident code points and escapes.
 pub(crate) struct Name;
@@ -15,10 +16,10 @@ impl Rule for Name {
     ghost rule = { λ r. in_ident };
 
     #[tactic(auto, unfolding(syntax::specs::Escapes::in_ident))]
-    fn turn(&self, first: u32, second: u32) -> Turn {
-        if is_ident(first) {
+    fn turn(&self, seen: Peek) -> Turn {
+        if is_ident(seen.first) {
             Turn::Take
-        } else if is_valid_escape(first, second) {
+        } else if seen.starts_escape() {
             Turn::Escape
         } else {
             Turn::Halt
@@ -36,14 +37,14 @@ impl Rule for InString {
     ghost rule = { λ r. in_string r.quote };
 
     #[tactic(auto, unfolding(syntax::specs::Bodies::in_string))]
-    fn turn(&self, first: u32, second: u32) -> Turn {
-        if first == self.quote || first == 0x0a {
+    fn turn(&self, seen: Peek) -> Turn {
+        if seen.first == self.quote || seen.first == 0x0a {
             return Turn::Halt;
         }
-        if first != 0x5c {
+        if seen.first != 0x5c {
             return Turn::Take;
         }
-        match second {
+        match seen.second {
             EOF => Turn::Pass,
             0x0a => Turn::PassTwo,
             _ => Turn::Escape,
@@ -58,10 +59,10 @@ impl Rule for InUrl {
     ghost rule = { λ r. in_url };
 
     #[tactic(auto, unfolding(syntax::specs::Bodies::in_url))]
-    fn turn(&self, first: u32, second: u32) -> Turn {
-        if is_valid_escape(first, second) {
+    fn turn(&self, seen: Peek) -> Turn {
+        if seen.starts_escape() {
             Turn::Escape
-        } else if ends_url(first) {
+        } else if ends_url(seen.first) {
             Turn::Halt
         } else {
             Turn::Take
@@ -76,7 +77,8 @@ fn ends_url(c: u32) -> bool
     is_whitespace(c) || matches!(c, 0x22 | 0x27..=0x29 | 0x5c) || is_non_printable(c)
 }
 
-// `Digits` and `Whitespace` stay two: one rule with a type parameter would need a second trait, and be longer.
+// `Digits` and `Whitespace` stay two: a closure as the test doesn't do, since `while` takes a function to Bool and a
+// closure's `F.post` is a relation; and a trait of tests beside `Rule`, with a type for each, would be longer.
 
 /// Digits.
 pub(crate) struct Digits;
@@ -85,8 +87,8 @@ impl Rule for Digits {
     ghost rule = { λ r. while is_digit };
 
     #[tactic(auto, using(crate::proofs::Whiles::while_takes, crate::proofs::Whiles::while_ends))]
-    fn turn(&self, first: u32, _second: u32) -> Turn {
-        if is_digit(first) {
+    fn turn(&self, seen: Peek) -> Turn {
+        if is_digit(seen.first) {
             Turn::Take
         } else {
             Turn::Halt
@@ -101,8 +103,8 @@ impl Rule for Whitespace {
     ghost rule = { λ r. while is_whitespace };
 
     #[tactic(auto, using(crate::proofs::Whiles::while_takes, crate::proofs::Whiles::while_ends))]
-    fn turn(&self, first: u32, _second: u32) -> Turn {
-        if is_whitespace(first) {
+    fn turn(&self, seen: Peek) -> Turn {
+        if is_whitespace(seen.first) {
             Turn::Take
         } else {
             Turn::Halt
@@ -117,8 +119,8 @@ impl Rule for ExtraWhitespace {
     ghost rule = { λ r. in_extra_whitespace };
 
     #[tactic(auto, unfolding(syntax::specs::Bodies::in_extra_whitespace))]
-    fn turn(&self, first: u32, second: u32) -> Turn {
-        if is_whitespace(first) && is_whitespace(second) {
+    fn turn(&self, seen: Peek) -> Turn {
+        if is_whitespace(seen.first) && is_whitespace(seen.second) {
             Turn::Pass
         } else {
             Turn::Halt
@@ -133,10 +135,10 @@ impl Rule for InRemnants {
     ghost rule = { λ r. in_remnants };
 
     #[tactic(auto, unfolding(syntax::specs::Bodies::in_remnants))]
-    fn turn(&self, first: u32, second: u32) -> Turn {
-        if is_valid_escape(first, second) {
+    fn turn(&self, seen: Peek) -> Turn {
+        if seen.starts_escape() {
             Turn::PassTwo
-        } else if first == 0x29 {
+        } else if seen.first == 0x29 {
             Turn::Halt
         } else {
             Turn::Pass
@@ -151,8 +153,8 @@ impl Rule for InComment {
     ghost rule = { λ r. in_comment };
 
     #[tactic(auto, unfolding(syntax::specs::Bodies::in_comment))]
-    fn turn(&self, first: u32, second: u32) -> Turn {
-        if first == 0x2a && second == 0x2f {
+    fn turn(&self, seen: Peek) -> Turn {
+        if seen.first == 0x2a && seen.second == 0x2f {
             Turn::Halt
         } else {
             Turn::Take

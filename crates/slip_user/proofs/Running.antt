@@ -8,7 +8,7 @@ use Rattle.writer.specs.declared.writing.Writer.{Writer}
 use Rattle.writer.specs.declared.writing.Slip.{Slip}
 use Rattle.writer.specs.Blocks.{mirror}
 use Rattle.writer.specs.Writes.{Puts, Opens, opened, Closes}
-use Rattle.writer.specs.Runs.{did_put, did_open, did_close, none, more, accepted}
+use Rattle.writer.specs.Runs.{Deed, Run, did_put, did_open, did_close, none, more, accepted}
 use Rattle.slip_user.specs.Blocks.{Writes}
 
 module _ {S : Type 0} {held : S → List ℕ} {takes : S → ℕ → Bool} where
@@ -16,15 +16,19 @@ module _ {S : Type 0} {held : S → List ℕ} {takes : S → ℕ → Bool} where
   slip_kind : {w v : Writer S} {t : TokenValue} {slip : Slip} → Opens held takes w t (Ok slip) v → slip.kind ≡ number_of t.kind
   slip_kind (opened h b a d k) = k
 
+  -- a run with a refusal promises nothing of its tokens
+  refused : {w u : Writer S} {f : Fault} (ts : List TokenValue) (ds : List Deed) → Run held takes w ds u → Writes held takes w ts (Err f) u
+  refused ts ds r = record { deeds = ds; run = r; accepts = tt }
+
   -- the block is not opened
   pub not_opened : {w u : Writer S} {o : TokenValue} {f : Fault} (ts : List TokenValue) → Opens held takes w o (Err f) u → Writes held takes w ts (Err f) u
-  not_opened {o = o} {f = f} ts x = record { deeds = did_open o (Err f) ∷ []; run = more x none; accepts = tt }
+  not_opened {o = o} {f = f} ts x = refused ts (did_open o (Err f) ∷ []) (more x none)
 
   -- a token in a block that is not closed, or that is
   pub not_closed : {w a b u : Writer S} {o t : TokenValue} {slip : Slip} {r : Result (Unit {0}) Fault} {f : Fault} (ts : List TokenValue) → Opens held takes w o (Ok slip) a
       → Puts held takes a t r b → Closes held takes b slip.depth slip.kind (Err f) u → Writes held takes w ts (Err f) u
   not_closed {o = o} {t = t} {slip = slip} {r = r} {f = f} ts x y z =
-      record { deeds = did_open o (Ok slip) ∷ did_put t r ∷ did_close slip.depth slip.kind (Err f) ∷ []; run = more x (more y (more z none)); accepts = tt }
+      refused ts (did_open o (Ok slip) ∷ did_put t r ∷ did_close slip.depth slip.kind (Err f) ∷ []) (more x (more y (more z none)))
 
   pub block_written : {w a b u : Writer S} {o t : TokenValue} {slip : Slip} (r : Result (Unit {0}) Fault) → o ≡ bare OpenCurly
       → Opens held takes w o (Ok slip) a → Puts held takes a t r b → Closes held takes b slip.depth slip.kind (Ok tt) u
@@ -43,12 +47,12 @@ module _ {S : Type 0} {held : S → List ℕ} {takes : S → ℕ → Bool} where
   pub first_not_closed : {w a u : Writer S} {o : TokenValue} {slip : Slip} {d k : ℕ} {f : Fault} (ts : List TokenValue) → Opens held takes w o (Ok slip) a
       → Closes held takes a d k (Err f) u → Writes held takes w ts (Err f) u
   first_not_closed {o = o} {slip = slip} {d = d} {k = k} {f = f} ts x y =
-      record { deeds = did_open o (Ok slip) ∷ did_close d k (Err f) ∷ []; run = more x (more y none); accepts = tt }
+      refused ts (did_open o (Ok slip) ∷ did_close d k (Err f) ∷ []) (more x (more y none))
 
   pub second_not_opened : {w a b u : Writer S} {o q : TokenValue} {slip : Slip} {d k : ℕ} {f : Fault} (ts : List TokenValue) → Opens held takes w o (Ok slip) a
       → Closes held takes a d k (Ok tt) b → Opens held takes b q (Err f) u → Writes held takes w ts (Err f) u
   second_not_opened {o = o} {q = q} {slip = slip} {d = d} {k = k} {f = f} ts x y z =
-      record { deeds = did_open o (Ok slip) ∷ did_close d k (Ok tt) ∷ did_open q (Err f) ∷ []; run = more x (more y (more z none)); accepts = tt }
+      refused ts (did_open o (Ok slip) ∷ did_close d k (Ok tt) ∷ did_open q (Err f) ∷ []) (more x (more y (more z none)))
 
   pub blocks_written : {w a b c u : Writer S} {o q : TokenValue} {slip slip' : Slip} {d k d' k' : ℕ} (r : Result (Unit {0}) Fault) → o ≡ bare OpenCurly → q ≡ bare OpenSquare
       → Opens held takes w o (Ok slip) a → Closes held takes a d k (Ok tt) b → k ≡ slip.kind

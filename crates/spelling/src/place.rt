@@ -1,9 +1,11 @@
 //! The places where a text stands, each with what opens and closes it and how it treats a code point.
 #![tactic(auto, unfolding(codepoint::specs::Classes::is_scalar_value, codepoint::specs::Utf8::bytes_of, codepoint::specs::Utf8::scalar_bytes, codepoint::specs::Utf8::utf8, syntax::specs::Places::identifier, syntax::specs::Places::loose, syntax::specs::Places::quoted_string, syntax::specs::Places::url))]
 
-ghost use Rattle.std.specs.Prelude.{◌≡◌, ℕ, ◌&&◌, length, ◌==◌};
+ghost use Rattle.std.specs.Prelude.{◌≡◌, ℕ, ◌&&◌, cond, length, ◌==◌};
 ghost use Rattle.codepoint.specs.Utf8.{bytes_of};
 ghost use Rattle.syntax.specs.Places.{Place, identifier, is_leading, loose, quoted_string, url};
+ghost use Rattle.syntax.specs.Points.{is_one_of};
+ghost use Rattle.syntax.specs.declared.place.Treatment.TheVariants.{Backslash, Stay};
 
 use codepoint::class::{is_digit, is_ident};
 use rules::points::{is_one_of, point_at};
@@ -11,7 +13,8 @@ use syntax::place::Treatment;
 
 const HYPHEN: u32 = 0x2d;
 
-/// A place where a text stands. The getters say what the constants are, which generic code cannot see.
+/// A place where a text stands. Each place has constants of its own for what opens and closes it: a rule of the project,
+/// so no getter stands in for them. The getters say what the constants are, which generic code cannot see.
 // A ghost `OPEN` beside the constant would be a `Bor (List ℕ)`, with an address that no impl can name: the check has
 // `ref_ptr = (c.result-1.given.0, 0)` for it, and "the facts known there allow values at which this goal is false".
 pub trait SpellingPlace {
@@ -108,11 +111,7 @@ impl SpellingPlace for QuotedString {
     }
 
     fn treat(_text: &[u32], _at: usize, c: u32) -> Treatment {
-        if is_one_of(b"\"\\", c) {
-            Treatment::Backslash
-        } else {
-            Treatment::Stay
-        }
+        escape_one_of(b"\"\\", c)
     }
 }
 
@@ -135,11 +134,18 @@ impl SpellingPlace for Url {
     }
 
     fn treat(_text: &[u32], _at: usize, c: u32) -> Treatment {
-        if is_one_of(b" \"'()\\", c) {
-            Treatment::Backslash
-        } else {
-            Treatment::Stay
-        }
+        escape_one_of(b" \"'()\\", c)
+    }
+}
+
+/// A backslash before one of these signs, and all else as it is.
+fn escape_one_of(signs: &[u8], c: u32) -> Treatment
+    ensures { result ≡ cond (is_one_of signs.now c) Backslash Stay }
+{
+    if is_one_of(signs, c) {
+        Treatment::Backslash
+    } else {
+        Treatment::Stay
     }
 }
 

@@ -1,5 +1,5 @@
 -- What the byte source hands over, by what comes first.
-use Rattle.std.proofs.Common.{◌≡◌, ℕ, suc, ◌+◌, ◌-◌, ◌≤◌, List, [], ◌∷◌, length, take, drop, Ok, Err, sym, refl, ap, ◌∙◌, add-zero, arith, length-append, length-drop, take_all, drop-drop}
+use Rattle.std.proofs.Common.{◌≡◌, ℕ, suc, ◌+◌, ◌≤◌, List, [], ◌∷◌, length, drop, Ok, Err, sym, refl, ap, ◌∙◌, add-zero, arith, length-append, length-drop, drop-drop}
 use Rattle.codepoint.specs.declared.utf8.Decoded.{Decoded}
 use Rattle.codepoint.specs.declared.utf8.Decoded.TheVariants as decodes
 use Rattle.codepoint.specs.Utf8.{decoded, ill_formed_from, ill_formed_then, point_then, points_from}
@@ -14,10 +14,6 @@ use Rattle.stream.specs.Sources.{Ending, Hands, byte_ending, ending_at}
 -- a decoded sequence lies within its bytes
 pub decoded_fits : (bs : List ℕ) (c n : ℕ) → decoded bs ≡ decodes.Point c n → n ≤ length bs
 decoded_fits bs c n e = let p = decoded_is_encoding bs c n e in omega (arith, p.1, simp length-append at (ap length p.2.1))
-
--- what is left of a slice from offset i on
-pub left_of_slice : (i : ℕ) (xs : List ℕ) → take (length xs - i) (drop i xs) ≡ drop i xs
-left_of_slice i xs = take_all (length xs - i) (drop i xs) (simp length-drop (omega arith))
 
 -- a source with a first code point hands that one over
 hands_point : {ps after : List Placed} {q : Placed} {rest : List Placed} {e e' : Ending} → ps ≡ q ∷ rest → after ≡ rest → e' ≡ e → Hands ps e (Ok (Point q)) after e'

@@ -9,18 +9,15 @@ use std::alloc::{AllocError, Global};
 #[derive(Drop)]
 pub struct BufferSink {
     bytes: Vec<u8>,
-    cells: usize,
-    ghost reserved: { cells ≤ vec_capacity bytes },
-    ghost inside: { vec_len bytes ≤ cells },
 }
 
 impl BufferSink {
     /// An empty buffer of so many cells.
     pub fn new(heap: Global, cells: usize) -> Result<BufferSink, AllocError>
-        ensures { IfOk result (λ b. (b.bytes.items ≡ []) × (b.cells ≡ cells)) }
+        ensures { IfOk result (λ b. (b.bytes.items ≡ []) × (vec_capacity b.bytes ≡ cells)) }
     {
         let bytes = Vec::with_capacity(heap, cells)?;
-        Ok(BufferSink { bytes, cells })
+        Ok(BufferSink { bytes })
     }
 
     /// The bytes held.
@@ -34,11 +31,11 @@ impl BufferSink {
 impl Sink for BufferSink {
     ghost held = { λ s. s.bytes.items };
 
-    ghost takes = { λ s b. nat_lt (vec_len s.bytes) s.cells };
+    ghost takes = { λ s b. nat_lt (vec_len s.bytes) (vec_capacity s.bytes) };
 
     fn take(&mut self, byte: u8) -> Result<(), Fault> {
         let len = self.bytes.len();
-        if len >= self.cells {
+        if len >= self.bytes.capacity() {
             return Err(Fault::NotTaken(len));
         }
         self.bytes.push_reserved(byte);

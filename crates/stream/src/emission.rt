@@ -22,6 +22,7 @@ pub fn emit_code_point<S: Sink>(sink: &mut S, c: u32) -> Result<(), Fault>
     ensures steps { Emits S.Sink.held S.Sink.takes sink.old (utf8 c) result sink.new }
     ensures outcome { Outcome S.Sink.held S.Sink.takes sink.old (utf8 c) result sink.new }
 {
+    // ASCII: the cast is proved to lose nothing
     if c < 0x80 {
         return sink.take(c as u8);
     }

@@ -23,6 +23,13 @@ impl<'a> ByteSource<'a> {
     {
         ByteSource { bytes, at: 0 }
     }
+
+    /// The bytes that are left.
+    fn rest(&self) -> &[u8]
+        ensures { result.now ≡ drop self.now.at self.now.bytes.now }
+    {
+        &self.bytes[self.at..]
+    }
 }
 
 impl Source for ByteSource<'_> {
@@ -36,7 +43,7 @@ impl Source for ByteSource<'_> {
 
     fn next(&mut self) -> Result<Step, Fault> {
         let place = self.at;
-        match decode(&self.bytes[place..]) {
+        match decode(self.rest()) {
             Decoded::Empty => Ok(Step::End(place)),
             Decoded::Point(c, len) => {
                 self.at = place + len;

@@ -4,7 +4,8 @@ ghost use Rattle.stream.specs.Sinks.{Takes};
 
 use refusal::Fault;
 
-/// A sink holds a list of bytes, and has at each moment the bytes that it would take next.
+/// A sink holds a list of bytes, and has at each moment the bytes that it would take next. Two members and no record:
+/// a definition takes what it speaks of, one or both.
 pub trait Sink {
     ghost held: { Self → List ℕ };
 

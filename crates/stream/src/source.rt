@@ -12,7 +12,8 @@ pub enum Step {
     End(usize),
 }
 
-/// A source has a list of code points ahead, each with its place, and an ending: the end with its place, or a fault.
+/// A source has a list of code points ahead, each with its place, and an ending: the end with its place, or a fault. Two
+/// members and no record: a definition takes what it speaks of, one or both.
 pub trait Source {
     ghost ahead: { Self → List Placed };
 

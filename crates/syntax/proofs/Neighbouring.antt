@@ -43,15 +43,12 @@ pub record Opens (q : TokenValue) (s : List ℕ) : Type 0 where
   pub no_gt : apart Left.Dashes (right_of q) ≡ false → eqb (get_or s 0 0) 62 ≡ false
   pub no_white : is_kind Whitespace q ≡ false → is_whitespace (get_or s 0 0) ≡ false
 
-never : {A : Type 0} → true ≡ false → A
-never e = absurd (both_ways true e refl)
-
 -- as a name
 by_name : (q : TokenValue) (s : List ℕ) → right_of q ≡ Right.Name → NameLike s → Opens q s
 unfolding is_name_first is_ident_start is_letter apart
 by_name q s w h = record {
-  plain = λ e. never (sym (ap (apart Left.Name) w) ∙ e);
-  nameless = λ e. never (sym (ap (apart Left.At) w) ∙ e);
+  plain = λ e. absurd (cc (sym (ap (apart Left.Name) w) ∙ e));
+  nameless = λ e. absurd (cc (sym (ap (apart Left.At) w) ∙ e));
   numberless = λ _. name_counts h;
   no_bang = λ _. name_first h 33 refl;
   no_percent = λ _. name_first h 37 refl;
@@ -65,9 +62,9 @@ by_name q s w h = record {
 by_number : (q : TokenValue) (s : List ℕ) → right_of q ≡ Right.Numeric → NumberLike s → Opens q s
 unfolding is_number_first is_digit apart
 by_number q s w h = record {
-  plain = λ e. never (sym (ap (apart Left.Name) w) ∙ e);
+  plain = λ e. absurd (cc (sym (ap (apart Left.Name) w) ∙ e));
   nameless = λ _. number_starts h;
-  numberless = λ e. never (sym (ap (apart Left.DotOrPlus) w) ∙ e);
+  numberless = λ e. absurd (cc (sym (ap (apart Left.DotOrPlus) w) ∙ e));
   no_bang = λ _. number_first h 33 refl;
   no_percent = λ _. number_first h 37 refl;
   no_paren = λ _. number_first h 40 refl;
@@ -133,7 +130,7 @@ delim_opens : {m : ℕ} (d : Delimiter m) (r : List ℕ) → DelimNeeds d r → 
 unfolding is_lone starts_ident starts_number is_ident is_whitespace is_ident_start is_letter is_digit is_valid_escape is_non_printable signs.is_other right_of apart
 delim_opens signs.Delimiter.hash r n = by_lone _ 35 r refl
 delim_opens signs.Delimiter.plus r n = signless _ 43 r refl refl (λ _. record { no_ident = refl; no_escape = refl }) refl (signs.sign_counts r n)
-delim_opens signs.Delimiter.dash r n = signless _ 45 r refl refl (λ e. never e) (plain_dash n.0) (signs.sign_counts r n.1)
+delim_opens signs.Delimiter.dash r n = signless _ 45 r refl refl (λ e. absurd (cc e)) (plain_dash n.0) (signs.sign_counts r n.1)
 delim_opens signs.Delimiter.dot r n = signless _ 46 r refl refl (λ _. record { no_ident = refl; no_escape = refl }) refl (or_from _ _ (signs.no_digit_counts r n) refl)
 delim_opens signs.Delimiter.slash r n = by_lone _ 47 r refl
 delim_opens signs.Delimiter.less r n = by_lone _ 60 r refl
@@ -151,7 +148,7 @@ mono_opens r semicolon = by_lone _ 59 r refl
 mono_opens r comma = by_lone _ 44 r refl
 mono_opens r open_square = by_lone _ 91 r refl
 mono_opens r close_square = by_lone _ 93 r refl
-mono_opens r open_round = by_first _ 40 r refl refl refl refl refl (λ _. refl) (λ _. refl) (λ e. never e) (λ _. refl) (λ _. refl)
+mono_opens r open_round = by_first _ 40 r refl refl refl refl refl (λ _. refl) (λ _. refl) (λ e. absurd (cc e)) (λ _. refl) (λ _. refl)
 mono_opens r close_round = by_lone _ 41 r refl
 mono_opens r open_curly = by_lone _ 123 r refl
 mono_opens r close_curly = by_lone _ 125 r refl
@@ -167,7 +164,7 @@ white_opens c r h = record {
   no_paren = λ _. ⊎_elim (λ e. rw e refl) (λ e. rw e refl) h;
   no_star = λ _. ⊎_elim (λ e. rw e refl) (λ e. rw e refl) h;
   no_gt = λ _. ⊎_elim (λ e. rw e refl) (λ e. rw e refl) h;
-  no_white = λ e. never e;
+  no_white = λ e. absurd (cc e);
 }
 
 cdc_opens : (r : List ℕ) → Opens (bare Cdc) (45 ∷ 45 ∷ 62 ∷ r)

@@ -1,7 +1,8 @@
 -- How spelled names and numbers begin, whatever follows them.
-use Rattle.std.proofs.Common.{◌≡◌, ℕ, ◌<◌, Bool, true, false, ◌&&◌, ◌||◌, eqb, List, [], ◌∷◌, ◌++◌, length, get_or, sym, refl, subst, append_assoc, arith}
+use Rattle.std.proofs.Common.{◌≡◌, ℕ, ◌<◌, Bool, true, false, ◌||◌, eqb, List, [], ◌∷◌, ◌++◌, length, get_or, sym, refl, subst, append_assoc, arith, ◌∙◌}
 use Rattle.std.proofs.lemmas.Bool.Decides.{nat_tests}
 use Rattle.std.proofs.lemmas.Bool.{both_ways, eqb-true}
+use Rattle.std.proofs.Math.Bool.{and-true}
 use Rattle.codepoint.specs.Classes.{is_digit, is_ident, is_ident_start}
 use Rattle.codepoint.specs.Starts.{is_valid_escape, starts_ident, starts_number}
 use Rattle.syntax.specs.declared.place.Treatment.{Treatment}
@@ -41,17 +42,13 @@ pub data NameLike : List ℕ → Type 0 where
   dash_escape : {c : ℕ} {s : List ℕ} → (c ≡ 10 → ⊥) → NameLike (45 ∷ 92 ∷ c ∷ s)
   dashes : {s : List ℕ} → NameLike (45 ∷ 45 ∷ s)
 
-and_true : (b : Bool) → (b && true) ≡ false → b ≡ false
-and_true true h = h
-and_true false h = refl
-
 module _ (how : ℕ → ℕ → Treatment) (r : List ℕ) where
   -- behind a `-`
   second_opens : (d : ℕ) (t : List ℕ) → ((i c : ℕ) → Spelt (KeptIdent (45 ∷ d ∷ t) i c) c (how i c)) → NameLike (45 ∷ (escaped_from how 1 (d ∷ t) ++ r))
   unfolding escaped_from
   second_opens d t spelt =
       rw append_assoc (spelt_opens (λ s. NameLike (45 ∷ s)) _ (λ _ _. dash_escape)
-      (λ k. split (eqb d 45) refl (and_true (is_digit d) k.no_leading_digit) k.ident) (spelt 1 d))
+      (λ k. split (eqb d 45) refl (sym (and-true (is_digit d)) ∙ k.no_leading_digit) k.ident) (spelt 1 d))
     where
       split : {u : List ℕ} (b : Bool) → eqb d 45 ≡ b → is_digit d ≡ false → is_ident d ≡ true → NameLike (45 ∷ d ∷ u)
       split true e n i = rw (eqb-true d 45 e) dashes
@@ -64,7 +61,7 @@ module _ (how : ℕ → ℕ → Treatment) (r : List ℕ) where
       let z = eqb-true c 45 e in
       let second = second_opens d t (subst (λ x. (i c : ℕ) → Spelt (KeptIdent (x ∷ d ∷ t) i c) c (how i c)) z spelt) in
       subst (λ x. NameLike (x ∷ (escaped_from how 1 (d ∷ t) ++ r))) (sym z) second
-  first_opens c t spelt false e k = start (start_of c k.ident (and_true (is_digit c) k.no_leading_digit) e)
+  first_opens c t spelt false e k = start (start_of c k.ident (sym (and-true (is_digit c)) ∙ k.no_leading_digit) e)
 
   name_opens : (t : List ℕ) → ((i c : ℕ) → Spelt (KeptIdent t i c) c (how i c)) → 0 < length t → NameLike (escaped_from how 0 t ++ r)
   unfolding escaped_from

@@ -93,13 +93,10 @@ good_name_end t r k l h =
     either (eqb (get_or r 0 0) 40) _ _ Good
     (λ _. either (is_url t) _ _ Good
     (λ _. either (quote_comes w) _ _ Good
-    (λ q. record { input = x; shape = inl (formed.Formed.function (k, l)); line = λ e. never (sym e); quote = λ _. q })
+    (λ q. record { input = x; shape = inl (formed.Formed.function (k, l)); line = λ e. absurd (cc (sym e)); quote = λ _. q })
     (λ _. good_url _ (input_left (while is_whitespace) 0 w x)))
     (λ u. plainly _ _ (input_drop 1 r h) (inl (formed.Formed.function (k, l))) refl u))
     (λ _. plainly _ _ h (inl (formed.Formed.ident (k, l))) refl refl)
-  where
-    never : {A : Type 0} → true ≡ false → A
-    never e = absurd (both_ways true e refl)
 
 good_name : (s : List ℕ) → AllPreprocessed s → Starts true s → Good (ident_like_at s)
 unfolding ident_like_at

@@ -1,6 +1,6 @@
 //! The kinds of tokens, with their numbers.
 ghost use Rattle.std.specs.Prelude.{◌≡◌};
-ghost use Rattle.syntax.specs.Kinds.{number_of};
+ghost use Rattle.syntax.specs.Kinds.{is_bad_kind, number_of};
 
 #[derive(Clone, Copy, PartialEq, Eq, Debug)]
 pub enum Kind {
@@ -36,5 +36,12 @@ impl Kind {
         ensures { result ≡ number_of self }
     {
         self as u8
+    }
+
+    /// A bad string or a bad url.
+    pub fn is_bad(self) -> bool
+        ensures { result ≡ is_bad_kind self }
+    {
+        matches!(self, Kind::BadString | Kind::BadUrl)
     }
 }

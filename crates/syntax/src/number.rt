@@ -1,4 +1,5 @@
-//! What stands before the digits of each part of a number, by the next code points. Past the end stands `EOF`.
+//! What stands before the digits of each part of a number, by the next code points, one by one since they come from a
+//! window or from a text. Past the end stands `EOF`.
 ghost use Rattle.syntax.specs.Numbers.{exponent_length, fraction_length, is_e, is_sign, sign_length};
 ghost use Rattle.std.specs.Prelude.{◌≡◌};
 
@@ -23,7 +24,7 @@ pub fn is_e(c: u32) -> bool
 pub fn sign_length(first: u32) -> usize
     ensures { result ≡ sign_length first }
 {
-    if is_sign(first) { 1 } else { 0 }
+    usize::from(is_sign(first))
 }
 
 /// 1 for the `.` of a fraction, or 0 where no fraction comes.
@@ -31,11 +32,7 @@ pub fn sign_length(first: u32) -> usize
 pub fn fraction_length(first: u32, second: u32) -> usize
     ensures { result ≡ fraction_length first second }
 {
-    if first == 0x2e && is_digit(second) {
-        1
-    } else {
-        0
-    }
+    usize::from(first == 0x2e && is_digit(second))
 }
 
 /// 1 for the `e` of an exponent, 2 with a sign behind it, or 0 where no exponent comes.

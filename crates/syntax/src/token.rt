@@ -1,4 +1,5 @@
-//! A token as code holds it: text and unit are borrowed code points.
+//! A token as code holds it: text and unit are borrowed code points. Its fields are public and are matched on, so contracts
+//! see it by `value_of` and by no model.
 ghost use Rattle.syntax.specs.Tokens.{bare, delim, texted, value_of};
 ghost use Rattle.std.specs.Prelude.{◌≡◌};
 

@@ -16,9 +16,6 @@ use Rattle.writer.specs.declared.state.State.{State}
 use Rattle.writer.specs.Blocks.{opens_block, mirror}
 use Rattle.writer.specs.Refusals.{first_of, is_free, put_refusals, open_refusals, close_refusals, finish_refusals}
 
-pub clash : {P : Type 0} (b : Bool) → b ≡ true → b ≡ false → P
-clash b t f = absurd (cc)
-
 -- none of the tests holds
 abbrev NoneHolds : List (Bool × Fault) → Type 0
 NoneHolds [] = Unit {0}

@@ -1,6 +1,7 @@
 -- A finished run from a new writer has written its accepted tokens. The induction goes forward over the calls, with
 -- what the tokens so far come to; after finish nothing changes, and a stuck writer never finishes.
 use Rattle.std.proofs.Common.{◌≡◌, ℕ, ◌+◌, Bool, true, false, cond, ◌&&◌, ◌⊎◌, List, [], ◌∷◌, ◌++◌, length, drop, is_some, Some, Ok, Err, Option, sym, refl, ap, ◌∙◌, subst, append_assoc, append-nil, arith, length-append, inl, inr}
+use Rattle.std.proofs.lemmas.Bool.{both_ways}
 use lib.Seq.{drop-append_seam}
 use Rattle.codepoint.specs.Utf8.{bytes_of}
 use Rattle.refusal.specs.declared.fault.Fault.{Fault}
@@ -23,15 +24,15 @@ use Rattle.writer.specs.Counts.{counts, counts_of}
 use Rattle.writer.specs.States.{Advanced}
 use Rattle.writer.specs.Writes.{bytes_added, Adds, whole, broken, put_refused, put_added, open_refused, opened, open_broken, close_refused, close_added, finish_refused, finished}
 use Rattle.writer.specs.Runs.{Deed, did_put, did_open, did_close, did_finish, accepted, finale, Does, Run, none, more, FinishedRunsWriteTheirTokens}
-use Rattle.writer.proofs.Admitted.{clash, LetsThrough, put_lets_through, open_lets_through, close_lets_through, finish_lets_end}
+use Rattle.writer.proofs.Admitted.{LetsThrough, put_lets_through, open_lets_through, close_lets_through, finish_lets_end}
 
 -- after finish, and once the sink refused, nothing is let through
 abbrev Halts : State → Type 0
 Halts s = (s.finished ≡ true) ⊎ (is_some s.stuck ≡ true)
 
 shut : {P : Type 0} (s : State) → Halts s → s.finished ≡ false → is_some s.stuck ≡ false → P
-shut s (inl e) going unstuck = clash s.finished e going
-shut s (inr e) going unstuck = clash (is_some s.stuck) e unstuck
+shut s (inl e) going unstuck = absurd (both_ways _ going e)
+shut s (inr e) going unstuck = absurd (both_ways _ unstuck e)
 
 barred : {P : Type 0} {s : State} {t : TokenValue} → Halts s → LetsThrough s t → P
 barred {s = s} o l = shut s o l.going l.unstuck
@@ -60,7 +61,7 @@ module _ {S : Type 0} (held : S → List ℕ) (takes : S → ℕ → Bool) where
   broken_never_ends : {P : Type 0} {w v u : Writer S} {b : Blocks} {g : Fault} (t : TokenValue) (ds : List Deed) → LetsThrough w.state t → u.state.finished ≡ true
       → Adds held takes w t b (Err g) v → Run held takes v ds u → P
   broken_never_ends {u = u} t ds l f (broken e a) r =
-      clash u.state.finished f (ap (λ x. x.state.finished) (halted_run ds (inr (ap is_some a.unstuck)) r).0 ∙ a.going ∙ l.going)
+      absurd (both_ways _ (ap (λ x. x.state.finished) (halted_run ds (inr (ap is_some a.unstuck)) r).0 ∙ a.going ∙ l.going) f)
 
 -- what the tokens ts, accepted since the sink was s, come to in a writer that goes on
 record SoFar {S : Type 0} (held : S → List ℕ) (s : S) (ts : List TokenValue) (w : Writer S) : Type 0 where
@@ -120,7 +121,7 @@ module _ (adds_one : PutAddsOneToken) (may-finish : AcceptedMayFinish) (decides 
   -- a run from a writer that goes on to one that has finished
   through : {s : S} (ts : List TokenValue) (ds : List Deed) {w u : Writer S} → SoFar held s ts w → w.state.finished ≡ false → u.state.finished ≡ true
       → Run held takes w ds u → AtEnd held s (ts ++ accepted ds) (finale ds) u
-  through ts [] {w} so g f none = clash w.state.finished f g
+  through ts [] {w} so g f none = absurd (both_ways _ g f)
   through ts (did_put t (Ok x) ∷ ds) so g f (more (put_added h a) r) =
       onward ts t (accepted ds) so (put_lets_through _ t h) a (λ so' g'. through (ts ++ t ∷ []) ds so' g' f r)
   through ts (did_put t (Err y) ∷ ds) so g f (more (put_refused h) r) = through ts ds so g f r

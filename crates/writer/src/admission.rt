@@ -1,19 +1,22 @@
-//! What a state admits, and how it goes on: all by value.
-ghost use Rattle.std.specs.Prelude.{◌≡◌, ◌+◌, ◌<◌, ◌≤◌, [], not, ◌&&◌, Ok, IfErr, IfOk, OnOk, nat_lt, Err};
+//! What a state admits, and how it ends: all by value.
+ghost use Rattle.std.specs.Prelude.{◌≡◌, [], not, ◌&&◌, IfOk, nat_lt};
 ghost use Rattle.refusal.specs.Faults.{place_of};
-ghost use Rattle.syntax.specs.Kinds.{is_bad_kind, number_of};
+ghost use Rattle.syntax.specs.Kinds.{number_of};
 ghost use Rattle.syntax.specs.Puts.{is_whitespace_left};
 ghost use Rattle.syntax.specs.Tokens.{is_kind, value_of};
 ghost use Rattle.syntax.specs.Turn.{is_in_turn};
 ghost use Rattle.syntax.specs.declared.kind.Kind.TheVariants.{Whitespace};
+ghost use Rattle.writer.specs.Admissions.{Admits};
 ghost use Rattle.writer.specs.Blocks.{is_block_sign, mirror, opens_block};
 ghost use Rattle.writer.specs.Refusals.{close_refusals, finish_refusals, first_of, is_free, open_refusals, put_refusals, refusals_of_all};
-ghost use Rattle.writer.specs.States.{Advanced, Ended, Fresh, Stopped};
+ghost use Rattle.writer.specs.States.{Closed, Ended, Fresh, Opened, Stopped};
 
+use crate::adding::Admitted;
 use crate::blocks::Blocks;
 use crate::state::State;
+use crate::writing::Slip;
 use refusal::Fault;
-use rules::{is_in_turn, is_lawful, left_of, waiting_after};
+use rules::{is_in_turn, is_lawful};
 use syntax::kind::Kind;
 use syntax::neighbour::Left;
 use syntax::token::Token;
@@ -78,13 +81,12 @@ impl State {
     }
 
     /// The refusals of put, in order.
-    pub(crate) fn admit_put(self, token: Token<'_>) -> Result<(), Fault>
-        ensures first { result ≡ first_of (put_refusals self (value_of token.entry)) }
-        ensures room { OnOk result (self.accepted + self.blocks.depth < 1000000) }
+    pub(crate) fn admit_put(self, token: Token<'_>) -> Result<Admitted<'_>, Fault>
+        ensures { Admits self (put_refusals self (value_of token.entry)) (value_of token.entry) (λ b. b ≡ self.blocks) result }
     {
         self.admit_any()?;
         let place = self.accepted;
-        if is_bad(token.kind) {
+        if token.kind.is_bad() {
             return Err(Fault::BadToken(place));
         }
         if !is_lawful(token) {
@@ -102,14 +104,16 @@ impl State {
         if self.accepted + self.blocks.depth() >= ROOM {
             return Err(Fault::NoRoom(place));
         }
-        Ok(())
+        Ok(Admitted {
+            state: self,
+            token,
+            blocks: self.blocks,
+        })
     }
 
     /// The refusals of open, in order.
-    pub(crate) fn admit_open(self, token: Token<'_>) -> Result<(), Fault>
-        ensures first { result ≡ first_of (open_refusals self (value_of token.entry)) }
-        ensures room { OnOk result (self.accepted + self.blocks.depth < 999999) }
-        ensures shallow { OnOk result (self.blocks.depth < 32) }
+    pub(crate) fn admit_open(self, token: Token<'_>) -> Result<Admitted<'_>, Fault>
+        ensures { Admits self (open_refusals self (value_of token.entry)) (value_of token.entry) (Opened self.blocks token.entry.kind) result }
     {
         self.admit_any()?;
         let place = self.accepted;
@@ -125,26 +129,31 @@ impl State {
         if self.accepted + self.blocks.depth() + 1 >= ROOM {
             return Err(Fault::NoRoom(place));
         }
-        Ok(())
+        Ok(Admitted {
+            state: self,
+            token,
+            blocks: self.blocks.opened(token.kind),
+        })
     }
 
-    /// The refusals of close, in order, or else the token that closes the block.
-    pub(crate) fn admit_close(self, depth: usize, kind: u8) -> Result<Token<'static>, Fault>
-        ensures refused { IfErr result (λ f. first_of (close_refusals self depth kind) ≡ Err f) }
-        ensures admitted { OnOk result (first_of (close_refusals self depth kind) ≡ Ok tt) }
-        ensures mirror { IfOk result (λ t. value_of t ≡ mirror kind) }
-        ensures open { OnOk result (0 < self.blocks.depth) }
+    /// The refusals of close, in order. The token is the one that closes the slip's block.
+    pub(crate) fn admit_close(self, slip: &Slip) -> Result<Admitted<'static>, Fault>
+        ensures { Admits self (close_refusals self slip.now.depth slip.now.kind) (mirror slip.now.kind) (Closed self.blocks) result }
     {
         self.admit_any()?;
         let place = self.accepted;
-        let Some(kind) = self.blocks.innermost(depth, kind) else {
+        let Some(kind) = self.blocks.innermost(slip) else {
             return Err(Fault::WrongSlip(place));
         };
-        let mirror = mirror_of(kind);
-        if self.is_out_of_turn(mirror) {
+        let token = mirror_of(kind);
+        if self.is_out_of_turn(token) {
             return Err(Fault::OutOfTurn(place));
         }
-        Ok(mirror)
+        Ok(Admitted {
+            state: self,
+            token,
+            blocks: self.blocks.closed(),
+        })
     }
 
     /// The refusals of finish, in order.
@@ -162,19 +171,6 @@ impl State {
         Ok(())
     }
 
-    /// The state behind a token that went out whole, with these blocks open then.
-    pub(crate) fn advanced(mut self, token: Token<'_>, blocks: Blocks) -> State
-        requires { self.accepted + 1 + blocks.depth ≤ 1000000 }
-        ensures { Advanced self (value_of token.entry) blocks result }
-    {
-        self.comments += usize::from(self.owes_comment(token));
-        self.accepted += 1;
-        self.blocks = blocks;
-        self.left = left_of(token);
-        self.waiting = waiting_after(self.waiting, token);
-        self
-    }
-
     /// The state after the sink refused a byte.
     pub(crate) fn stopped(mut self, fault: Fault) -> State
         ensures { Stopped self (place_of fault) result }
@@ -190,12 +186,6 @@ impl State {
         self.finished = true;
         self
     }
-}
-
-fn is_bad(kind: Kind) -> bool
-    ensures { result ≡ is_bad_kind kind }
-{
-    matches!(kind, Kind::BadString | Kind::BadUrl)
 }
 
 fn opens_block(kind: Kind) -> bool

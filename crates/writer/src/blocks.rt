@@ -2,6 +2,7 @@
 ghost use Rattle.std.specs.Prelude.{◌≡◌, ◌<◌, ◌≤◌, IfSome, is_some, nat_le};
 ghost use Rattle.syntax.specs.Kinds.{number_of};
 
+use crate::writing::Slip;
 use syntax::kind::Kind;
 
 /// The most open blocks.
@@ -41,16 +42,18 @@ impl Blocks {
         self.depth >= DEPTH
     }
 
-    /// The kind of the innermost block, if it has this depth and its kind this number.
-    pub(crate) fn innermost(self, depth: usize, number: u8) -> Option<Kind>
-        ensures found { is_some result ≡ is_innermost self depth number }
-        ensures kind { IfSome result (λ k. number ≡ number_of k) }
+    /// The kind of the innermost block, if the slip has its depth and the number of its kind.
+    pub(crate) fn innermost(self, slip: &Slip) -> Option<Kind>
+        ensures found { is_some result ≡ is_innermost self slip.now.depth slip.now.kind }
+        ensures kind { IfSome result (λ k. slip.now.kind ≡ number_of k) }
     {
-        if depth != self.depth {
+        if slip.depth != self.depth {
             return None;
         }
-        let open = &self.kinds[..depth];
-        open.last().copied().filter(|kind| kind.number() == number)
+        let open = &self.kinds[..self.depth];
+        open.last()
+            .copied()
+            .filter(|kind| kind.number() == slip.kind)
     }
 
     /// With one block more.

@@ -5,10 +5,10 @@
 //! are afterwards. Runs of calls are followed by those same relations: a finished run has written its accepted tokens.
 #![tactic(auto)]
 
+mod adding;
 mod admission;
 mod blocks;
 mod calls;
-mod comment;
 mod counts;
 mod replay;
 mod state;

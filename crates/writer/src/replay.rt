@@ -1,5 +1,5 @@
 //! Calls given as values and made one after another.
-#![tactic(auto, using(crate::proofs::Replaying::made))]
+#![tactic(auto, using(crate::proofs::Replaying::calls_made))]
 
 ghost use Rattle.writer.specs.Runs.{Makes, RunOf, call_of};
 ghost use Rattle.std.specs.Prelude.{map};

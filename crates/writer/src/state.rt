@@ -17,6 +17,7 @@ pub struct State {
     pub(crate) waiting: Waiting,
     /// The place of the sink's refusal, once it refused.
     pub(crate) stuck: Option<usize>,
+    /// Finish was not refused. Beside `stuck`, since the law names both; only one can be, as each refuses every call.
     pub(crate) finished: bool,
     ghost room: { accepted + blocks.depth ≤ 1000000 },
     ghost shallow: { blocks.depth ≤ 32 },

@@ -5,7 +5,7 @@ ghost use Rattle.std.specs.Prelude.{◌≡◌, ◌+◌, ◌≤◌};
 ghost use Rattle.syntax.specs.Tokens.{value_of};
 ghost use Rattle.writer.specs.Writes.{Adds, Closes, Finishes, New, Opens, Puts};
 
-use crate::blocks::Blocks;
+use crate::adding::Admitted;
 use crate::counts::Counts;
 use crate::state::State;
 use refusal::Fault;
@@ -59,19 +59,17 @@ impl<S: Sink> Writer<S> {
         self.state.finished
     }
 
-    /// Writes the comment if due and the token, and goes on with these open blocks.
-    fn add(&mut self, token: Token<'_>, blocks: Blocks) -> Result<(), Fault>
-        requires { self.old.state.accepted + 1 + blocks.depth ≤ 1000000 }
-        ensures { Adds S.Sink.held S.Sink.takes self.old (value_of token.entry) blocks result self.new }
+    /// Writes the comment if due and the admitted token, over the state that admitted it.
+    fn add(&mut self, admitted: Admitted<'_>) -> Result<(), Fault>
+        ensures { Adds S.Sink.held S.Sink.takes (record { sink = self.old.sink; state = admitted.entry.state }) (value_of admitted.entry.token) admitted.entry.blocks result self.new }
     {
-        let state = self.state;
-        match state.emit_added(&mut self.sink, token) {
+        match admitted.emit(&mut self.sink) {
             Ok(()) => {
-                self.state = state.advanced(token, blocks);
+                self.state = admitted.advanced();
                 Ok(())
             }
             Err(fault) => {
-                self.state = state.stopped(fault);
+                self.state = admitted.state.stopped(fault);
                 Err(fault)
             }
         }
@@ -81,21 +79,18 @@ impl<S: Sink> Writer<S> {
     pub fn put(&mut self, token: Token<'_>) -> Result<(), Fault>
         ensures { Puts S.Sink.held S.Sink.takes self.old (value_of token.entry) result self.new }
     {
-        let state = self.state;
-        state.admit_put(token)?;
-        self.add(token, state.blocks)
+        let admitted = self.state.admit_put(token)?;
+        self.add(admitted)
     }
 
     /// Writes a token that opens a block, and gives the slip that closes it.
     pub fn open(&mut self, token: Token<'_>) -> Result<Slip, Fault>
         ensures { Opens S.Sink.held S.Sink.takes self.old (value_of token.entry) result self.new }
     {
-        let state = self.state;
-        state.admit_open(token)?;
-        let blocks = state.blocks.opened(token.kind);
-        self.add(token, blocks)?;
+        let admitted = self.state.admit_open(token)?;
+        self.add(admitted)?;
         Ok(Slip {
-            depth: blocks.depth(),
+            depth: admitted.blocks.depth(),
             kind: token.kind.number(),
         })
     }
@@ -104,12 +99,9 @@ impl<S: Sink> Writer<S> {
     pub fn close(&mut self, mut slip: Slip) -> Result<(), Fault>
         ensures { Closes S.Sink.held S.Sink.takes self.old slip.depth slip.kind result self.new }
     {
-        let depth = slip.depth;
-        let kind = slip.kind;
+        let admission = self.state.admit_close(&slip);
         slip.depth = 0;
-        let state = self.state;
-        let mirror = state.admit_close(depth, kind)?;
-        self.add(mirror, state.blocks.closed())
+        self.add(admission?)
     }
 
     /// Ends the writing: answers the numbers of accepted tokens and of comments.

@@ -7,15 +7,25 @@ use syntax::kind::Kind;
 use syntax::token::Token;
 use writer::{Call, Counts, Writer};
 
+/// Opens as many blocks as there may be.
+fn open_all(writer: &mut Writer<BufferSink>) -> Result<(), Fault> {
+    for _ in 0..32 {
+        writer.call(Call::Open(Token::bare(Kind::OpenSquare)))?;
+    }
+    Ok(())
+}
+
+fn put_commas(writer: &mut Writer<BufferSink>, count: usize) -> Result<(), Fault> {
+    for _ in 0..count {
+        writer.put(Token::bare(Kind::Comma))?;
+    }
+    Ok(())
+}
+
 #[test]
 fn thirty_two_blocks(rt: HostRuntime) -> Result<(), Fail> {
     let mut writer = Writer::new(BufferSink::new(rt.alloc(), 66)?);
-    for _ in 0..32 {
-        assert_eq!(rt;
-            writer.call(Call::Open(Token::bare(Kind::OpenSquare))),
-            Ok(())
-        );
-    }
+    assert_eq!(rt; open_all(&mut writer), Ok(()));
     assert_eq!(rt;
         writer.call(Call::Open(Token::bare(Kind::OpenSquare))),
         Err(Fault::TooDeep(32))
@@ -27,8 +37,8 @@ fn thirty_two_blocks(rt: HostRuntime) -> Result<(), Fail> {
         Err(Fault::OutOfTurn(33))
     );
     assert_eq!(rt; writer.put(Token::bare(Kind::Whitespace)), Ok(()));
-    for above in 0..32 {
-        assert_eq!(rt; writer.call(close(32 - above, Kind::OpenSquare)), Ok(()));
+    for depth in (1..=32).rev() {
+        assert_eq!(rt; writer.call(close(depth, Kind::OpenSquare)), Ok(()));
     }
     assert_eq!(rt;
         writer.finish(),
@@ -43,9 +53,7 @@ fn thirty_two_blocks(rt: HostRuntime) -> Result<(), Fail> {
 #[test]
 fn a_million_tokens(rt: HostRuntime) -> Result<(), Fail> {
     let mut writer = Writer::new(BufferSink::new(rt.alloc(), 1_000_000)?);
-    for _ in 0..999_998 {
-        assert_eq!(rt; writer.put(Token::bare(Kind::Comma)), Ok(()));
-    }
+    assert_eq!(rt; put_commas(&mut writer, 999_998), Ok(()));
     assert_eq!(rt;
         writer.call(Call::Open(Token::bare(Kind::OpenSquare))),
         Ok(())
@@ -78,9 +86,7 @@ fn a_million_tokens(rt: HostRuntime) -> Result<(), Fail> {
 #[test]
 fn whitespace_at_the_limit(rt: HostRuntime) -> Result<(), Fail> {
     let mut writer = Writer::new(BufferSink::new(rt.alloc(), 1_000_000)?);
-    for _ in 0..999_999 {
-        assert_eq!(rt; writer.put(Token::bare(Kind::Comma)), Ok(()));
-    }
+    assert_eq!(rt; put_commas(&mut writer, 999_999), Ok(()));
     assert_eq!(rt; writer.put(Token::bare(Kind::Whitespace)), Ok(()));
     // 7 before 9
     assert_eq!(rt;
@@ -97,15 +103,8 @@ fn whitespace_at_the_limit(rt: HostRuntime) -> Result<(), Fail> {
 #[test]
 fn depth_before_room(rt: HostRuntime) -> Result<(), Fail> {
     let mut writer = Writer::new(BufferSink::new(rt.alloc(), 1_000_000)?);
-    for _ in 0..32 {
-        assert_eq!(rt;
-            writer.call(Call::Open(Token::bare(Kind::OpenSquare))),
-            Ok(())
-        );
-    }
-    for _ in 0..999_936 {
-        assert_eq!(rt; writer.put(Token::bare(Kind::Comma)), Ok(()));
-    }
+    assert_eq!(rt; open_all(&mut writer), Ok(()));
+    assert_eq!(rt; put_commas(&mut writer, 999_936), Ok(()));
     assert_eq!(rt;
         writer.put(Token::bare(Kind::Comma)),
         Err(Fault::NoRoom(999_968))
@@ -121,9 +120,7 @@ fn depth_before_room(rt: HostRuntime) -> Result<(), Fail> {
 #[test]
 fn room_before_the_sink(rt: HostRuntime) -> Result<(), Fail> {
     let mut writer = Writer::new(BufferSink::new(rt.alloc(), 999_999)?);
-    for _ in 0..999_999 {
-        assert_eq!(rt; writer.put(Token::bare(Kind::Comma)), Ok(()));
-    }
+    assert_eq!(rt; put_commas(&mut writer, 999_999), Ok(()));
     // 9 before 4 from the full sink
     assert_eq!(rt;
         writer.call(Call::Open(Token::bare(Kind::OpenSquare))),

@@ -1,6 +1,8 @@
 //! How the window is filled, shown and passed over.
-ghost use Rattle.std.specs.Prelude.{◌≡◌};
+ghost use Rattle.std.specs.List.{All};
+ghost use Rattle.std.specs.Prelude.{◌≡◌, ◌<◌, ◌∷◌, []};
 ghost use Rattle.stream.specs.Preprocess.{preprocessed};
+ghost use Rattle.lookahead.specs.Ahead.{peeked};
 ghost use Rattle.lookahead.specs.Windows.{FullOrTold, ahead_of, chunk_of};
 
 use super::{SIZE, Window};
@@ -46,16 +48,30 @@ impl<S: Source> Window<S> {
                 Step::Point(point) => *cell = point,
                 Step::End(place) => return Ok(Some(place)),
             }
+            // counted here and not behind the loop: the window is right wherever the source stops
             *end += 1;
         }
         Ok(None)
     }
 
-    /// The code points in the window.
+    /// The code points in the window, of which none is U+0000.
     fn chunk(&self) -> &[(u32, usize)]
-        ensures { result.now ≡ chunk_of self.now }
+        ensures now { result.now ≡ chunk_of self.now }
+        ensures no_zero { All (λ p. 0 < p.0) result.now }
     {
         &self.points[self.at..self.end]
+    }
+}
+
+/// Three code points in sight, at the place of the first.
+fn peek_of(a: (u32, usize), b: (u32, usize), c: (u32, usize)) -> Peek
+    ensures { result ≡ peeked (a ∷ b ∷ c ∷ []) }
+{
+    Peek {
+        first: a.0,
+        second: b.0,
+        third: c.0,
+        place: a.1,
     }
 }
 
@@ -64,26 +80,15 @@ impl<S: Source> Lookahead for Window<S> {
 
     fn peek(&mut self) -> Peek {
         // three are there but once in some sixty calls
-        if let [(first, place), (second, _), (third, _), ..] = *self.chunk() {
-            return Peek {
-                first,
-                second,
-                third,
-                place,
-            };
+        if let [a, b, c, ..] = *self.chunk() {
+            return peek_of(a, b, c);
         }
         let _ = self.refill();
-        let ((first, place), (second, _), (third, _)) = match *self.chunk() {
-            [a, b, c, ..] => (a, b, c),
-            [a, b] => (a, b, PAST),
-            [a] => (a, PAST, PAST),
-            [] => (PAST, PAST, PAST),
-        };
-        Peek {
-            first,
-            second,
-            third,
-            place,
+        match *self.chunk() {
+            [a, b, c, ..] => peek_of(a, b, c),
+            [a, b] => peek_of(a, b, PAST),
+            [a] => peek_of(a, PAST, PAST),
+            [] => peek_of(PAST, PAST, PAST),
         }
     }
 

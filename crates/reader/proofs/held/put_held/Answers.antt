@@ -1,5 +1,5 @@
-use Rattle.reader.proofs.Identifying.{held_put}
+use Rattle.scan.proofs.Turns.{puts_then}
 use Rattle.reader.proofs.held.put_held.Goals as goal
 
 pub returns : goal.returns
-returns c = held_put c.put_some.ensures c.put_some-2.ensures c.put_some-3.ensures
+returns c = puts_then c.put_some.ensures (puts_then c.put_some-2.ensures c.put_some-3.ensures)

@@ -3,4 +3,4 @@ use Rattle.reader.proofs.names.hold.Goals as goal
 
 pub returns : goal.returns
 returns g c =
-    holding _ _ _ _ _ _ _ c.name_one.ensures c.name_one-2.ensures c.name_one-3.ensures
+    holding c.name_one.ensures c.name_one-2.ensures c.name_one-3.ensures

@@ -5,7 +5,7 @@ use Rattle.scan.proofs.number.collect_part.Goals as goal
 
 pub loop-preserved : goal.loop-preserved
 loop-preserved g c =
-    one_taken _ _ _ _ _ _ _ _ c.loop.invariant (let n = c.requires in let m = c.loop-test.true in omega arith) c.peek-seen.ensures.seen (c.bump.ensures ∙ ap (past 1) c.peek-seen.ensures.same) c.put.ensures.cells c.put.ensures.fill c.put.ensures.same
+    one_taken _ _ _ _ _ _ _ _ c.loop.invariant (let n = c.requires in let m = c.loop-test.true in omega arith) c.peek-seen.ensures.seen (c.bump.ensures ∙ ap (past 1) c.peek-seen.ensures.same) c.put.ensures
 
 pub returns : goal.returns
 returns g c =

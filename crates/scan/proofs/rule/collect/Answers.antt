@@ -2,7 +2,7 @@ use Rattle.std.proofs.Common.{refl, ap, ◌∙◌}
 use Rattle.lookahead.specs.Ahead.{past}
 use Rattle.scan.proofs.States.{bump_twice}
 use Rattle.scan.proofs.Arms.{nothing_left}
-use Rattle.scan.proofs.Turns.{turned, gives, turn_one, turn_none, turn_escape, finish_halt, finish_end}
+use Rattle.scan.proofs.Turns.{turned, gives, turn_put, turn_none, turn_escape, finish_halt, finish_end}
 use Rattle.scan.specs.declared.rule.Turn.TheVariants.{Halt, Take, Pass, PassTwo, Escape}
 use Rattle.scan.proofs.rule.collect.Goals as goal
 
@@ -16,7 +16,7 @@ returns-in-Halt g c =
 
 pub loop-seen-preserved-in-Take : goal.loop-seen-preserved-in-Take
 loop-seen-preserved-in-Take g c =
-    turn_one _ _ _ _ _ c.loop-seen.invariant _ 0 (gives _ (g.L.Lookahead.rest c.loop-seen.input) _ c.peek-seen.ensures.seen c.peek-seen.ensures.ends c.if-seen-eq-EOF.false Take c.in-Take.ensures _ 0 refl) _ _ (c.bump.ensures ∙ ap (past 1) c.peek-seen.ensures.same) c.put.ensures.cells c.put.ensures.fill c.put.ensures.same
+    turn_put _ _ _ _ _ c.loop-seen.invariant _ 0 (gives _ (g.L.Lookahead.rest c.loop-seen.input) _ c.peek-seen.ensures.seen c.peek-seen.ensures.ends c.if-seen-eq-EOF.false Take c.in-Take.ensures _ 0 refl) _ _ (c.bump.ensures ∙ ap (past 1) c.peek-seen.ensures.same) c.put.ensures
 
 pub loop-seen-preserved-in-Pass : goal.loop-seen-preserved-in-Pass
 loop-seen-preserved-in-Pass g c =
@@ -28,4 +28,4 @@ loop-seen-preserved-in-PassTwo g c =
 
 pub loop-seen-preserved : goal.loop-seen-preserved
 loop-seen-preserved g c =
-    turn_escape _ _ _ _ _ c.loop-seen.invariant (gives _ (g.L.Lookahead.rest c.loop-seen.input) _ c.peek-seen.ensures.seen c.peek-seen.ensures.ends c.if-seen-eq-EOF.false Escape c.in-Escape.ensures _ _ refl) _ _ _ _ (c.bump-in-Escape.ensures ∙ ap (past 1) c.peek-seen.ensures.same) c.escape-c.ensures.value c.escape-c.ensures.left c.put-in-Escape.ensures.cells c.put-in-Escape.ensures.fill c.put-in-Escape.ensures.same
+    turn_escape _ _ _ _ _ c.loop-seen.invariant (gives _ (g.L.Lookahead.rest c.loop-seen.input) _ c.peek-seen.ensures.seen c.peek-seen.ensures.ends c.if-seen-eq-EOF.false Escape c.in-Escape.ensures _ _ refl) _ _ _ _ (c.bump-in-Escape.ensures ∙ ap (past 1) c.peek-seen.ensures.same) c.escape-c.ensures.value c.escape-c.ensures.left c.put-in-Escape.ensures

@@ -15,4 +15,4 @@ returns-then-not-is_empty g c =
       | else-is_empty b ↦ ap ahead b.self-is
     ] in
     let some : 0 < length c.chunk-2.result.now = grind (arith, nat_tests) in
-    same _ _ (passed_one w.points (points_of g.S.Source.ahead w.source) w.at w.end (omega (arith, ap length c.chunk-2.ensures))) refl ∙ ap (past 1) still
+    same _ _ (passed_one w.points (points_of g.S.Source.ahead w.source) w.at w.end (omega (arith, ap length c.chunk-2.ensures.now))) refl ∙ ap (past 1) still
