@@ -40,7 +40,8 @@ const CLASSES: [u8; 256] = [
     7, 7, 7, 7, 7, 7, 7, 7, 7, 7, 7, 7, 7, 7, 7, 7,
 ];
 
-/// The class number of any code point: past the table all are ident-start. The cast stays, since no `From` gives an index.
+/// The class number of any code point: past the table all are ident-start. The cast stays, since no `From` gives an index;
+/// by `if` and not by `get`, so that each half has its own proof.
 pub fn class_of(c: u32) -> u8
     ensures { ClassNumber c result }
 {
@@ -104,10 +105,5 @@ pub fn is_non_printable(c: u32) -> bool
 pub fn hex_value(c: u32) -> Option<u32>
     ensures { result ≡ hex_value_if_any c }
 {
-    match c {
-        0x30..=0x39 => Some(c - 0x30),
-        0x41..=0x46 => Some(c - 0x41 + 10),
-        0x61..=0x66 => Some(c - 0x61 + 10),
-        _ => None,
-    }
+    char::from_u32(c)?.to_digit(16)
 }

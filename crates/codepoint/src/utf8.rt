@@ -50,6 +50,7 @@ fn highest_after(a: u8) -> u8
     }
 }
 
+// One function for each row of the table of UTF-8: a loop over trailing bytes would be no plainer.
 fn decode_two(a: u8, rest: &[u8]) -> Decoded
     requires { 0xc2 ≤ a }
     ensures { result ≡ two_bytes a rest.now }

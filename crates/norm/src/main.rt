@@ -23,7 +23,7 @@ fn main(rt: HostRuntime) -> anyhow::Result<ExitCode> {
     }
     let heap = rt.alloc();
     let mut sheet = Vec::new(heap);
-    // one byte past the limit is enough to tell that the sheet is too long
+    // one byte past the limit is enough to tell that the sheet is too long; no `From` goes from usize to u64
     rt.stdin()
         .take(INPUT_LIMIT as u64 + 1)
         .read_to_end(&mut sheet)?;

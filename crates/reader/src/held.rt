@@ -8,7 +8,8 @@ ghost use Rattle.std.specs.Prelude.{◌≡◌, ◌&&◌, ◌==◌};
 use scan::Cells;
 use syntax::name;
 
-/// Up to three code points, as many as `url` has: in fixed memory, since the reader never allocates.
+/// Up to three code points, as many as `url` has: in fixed memory, since the reader never allocates. Three fields,
+/// since the definition of what is held names each.
 #[derive(Clone, Copy)]
 pub struct Held {
     pub first: Option<u32>,

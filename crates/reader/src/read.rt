@@ -8,6 +8,7 @@ use syntax::kind::Kind;
 #[derive(Clone, Copy)]
 pub struct Read {
     pub kind: Kind,
+    /// As the mark of a token.
     pub mark: u32,
     pub text: Option<usize>,
 }

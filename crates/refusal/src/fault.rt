@@ -48,11 +48,12 @@ pub enum Fault {
     Finished(usize),
     /// 15: the program's input is too long, at the longest length.
     TooLong(usize),
-    /// A fault of an operator's own source: its number, and its place.
+    /// A fault of an operator's own source: its number, which is the operator's to choose, and its place.
     Operator(u32, usize),
 }
 
 impl Fault {
+    /// The number that the rule book gives the refusal, and that is shown.
     pub fn number(self) -> u32
         ensures { result ≡ number_of self }
     {

@@ -66,6 +66,7 @@ fn is_loose(text: &[u32]) -> bool
     }
 }
 
+/// By the mark, a number by the rule book: 1 where the hash starts an identifier, else 0.
 fn is_hash_text(mark: u32, text: &[u32]) -> bool
     ensures { result ≡ is_hash mark text.now }
 {

@@ -36,7 +36,8 @@ pub fn is_apart(left: Left, right: Right) -> bool
     row[column_of(right)]
 }
 
-// The variants stand in the order of the rows, and those of `Right` in that of the columns: no conversion is plainer.
+// The variants stand in the order of the rows, and those of `Right` in that of the columns; no `From` gives an
+// index.
 fn row_of(left: Left) -> usize
     ensures number { result ≡ row_of left }
     ensures inside { result < 10 }

@@ -12,14 +12,13 @@ use syntax::waiting::Waiting;
 pub fn is_in_turn(waiting: Waiting, token: Token<'_>) -> bool
     ensures { result ≡ is_in_turn waiting (value_of token.entry) }
 {
-    match (waiting, token.kind) {
-        (Waiting::Free, _) => true,
-        (Waiting::AfterBackslash, Kind::Whitespace) => true,
-        (Waiting::AfterUrl, Kind::Whitespace) => true,
-        (Waiting::AfterUrl, Kind::QuotedString) => true,
-        (Waiting::AfterUrlWhitespace, Kind::QuotedString) => true,
-        (_, _) => false,
-    }
+    matches!(
+        (waiting, token.kind),
+        (Waiting::Free, _)
+            | (Waiting::AfterBackslash, Kind::Whitespace)
+            | (Waiting::AfterUrl, Kind::Whitespace | Kind::QuotedString)
+            | (Waiting::AfterUrlWhitespace, Kind::QuotedString)
+    )
 }
 
 /// What is awaited behind a token.

@@ -33,7 +33,8 @@ pub(crate) trait Rule {
         ensures { Says (rule self.now) seen.first seen.second result };
 }
 
-/// What a rule collects goes into the cells, and what it leaves is ahead.
+/// What a rule collects goes into the cells, and what it leaves is ahead. Input and cells stay two: skipping and escapes
+/// take the input alone, and what the reader holds back goes into the cells alone.
 pub(crate) fn collect<L: Lookahead, R: Rule>(input: &mut L, rule: &R, cells: &mut Cells<'_>)
     ensures { Collects cells.old (L.Lookahead.rest input.old) (collect (R.Rule.rule rule.now) (codes (L.Lookahead.rest input.old))) (beyond (R.Rule.rule rule.now) (codes (L.Lookahead.rest input.old))) cells.new (L.Lookahead.rest input.new) }
 {

@@ -30,7 +30,7 @@ pub trait SpellingPlace {
     fn closer() -> &'static [u8]
         ensures { result.now ≡ bytes_of place.closing };
 
-    /// How the code point `c` at an index of a text goes out, if it is no control.
+    /// How the code point `c` at an index of a text goes out, if it is no control. One by one, as the definition takes them.
     fn treat(text: &[u32], at: usize, c: u32) -> Treatment
         ensures { result ≡ place.treats text.now at c };
 }

@@ -29,7 +29,7 @@ fn hex_digit(value: u32) -> u32
     requires { value < 16 }
     ensures { result ≡ hex_digit value }
 {
-    if value < 10 { value + 48 } else { value + 87 }
+    u32::from(char::from_digit(value, 16).unwrap())
 }
 
 /// The hex digits of a number without leading zeros, at most so many of them.

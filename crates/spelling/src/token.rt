@@ -71,6 +71,7 @@ fn emit_at_keyword<S: Sink>(sink: &mut S, name: &[u32]) -> Result<(), Fault>
     emit_text::<Identifier, S>(sink, name)
 }
 
+/// A hash, by its mark, which is a number by the rule book.
 fn emit_hash<S: Sink>(sink: &mut S, mark: u32, text: &[u32]) -> Result<(), Fault>
     ensures { Emits S.Sink.held S.Sink.takes sink.old (bytes_of (codes "#" ++ spelled_in (hash_place mark) text.now)) result sink.new }
 {

@@ -8,6 +8,7 @@ use refusal::Fault;
 #[derive(Drop)]
 pub struct ComparingSink<'a> {
     expected: &'a [u8],
+    /// How many have come: the place that a refusal tells.
     at: usize,
     ghost inside: { at ≤ length expected.now },
 }

@@ -31,7 +31,7 @@ pub enum Kind {
 }
 
 impl Kind {
-    /// The number that the rule book gives the kind.
+    /// The number that the rule book gives the kind. The cast stays, since no `From` gives it.
     pub fn number(self) -> u8
         ensures { result ≡ number_of self }
     {

@@ -8,6 +8,7 @@ use crate::kind::Kind;
 #[derive(Clone, Copy)]
 pub struct Token<'a> {
     pub kind: Kind,
+    /// By the rule book: of a delim its code point, of a hash 1 where it starts an identifier, else 0.
     pub mark: u32,
     pub text: &'a [u32],
     pub unit: &'a [u32],

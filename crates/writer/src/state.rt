@@ -20,6 +20,7 @@ pub struct State {
     /// Finish was not refused. Beside `stuck`, since the law names both; only one can be, as each refuses every call.
     pub(crate) finished: bool,
     ghost room: { accepted + blocks.depth ≤ 1000000 },
+    // blocks promise it too; the state carries both limits
     ghost shallow: { blocks.depth ≤ 32 },
     ghost few: { comments ≤ accepted },
 }

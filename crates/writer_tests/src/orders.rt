@@ -154,5 +154,7 @@ fn open_close_and_finish_refusals(rt: HostRuntime) -> Result<(), Fail> {
         writer.put(Token::bare(Kind::Whitespace)),
         Err(Fault::NotTaken(2))
     );
+    // 4 before 8: whitespace is still awaited
+    assert_eq!(rt; writer.finish(), Err(Fault::NotTaken(2)));
     Ok(())
 }

@@ -14,6 +14,7 @@ use stream::{Preprocess, Source, Step};
 /// What stands past the end.
 const PAST: (u32, usize) = (EOF, 0);
 
+// The clauses take `ahead_of` and no model: the methods speak of the fields, which a model would hide.
 impl<S: Source> Window<S> {
     /// A window over a source, preprocessed.
     pub fn new(source: S) -> Window<S>
