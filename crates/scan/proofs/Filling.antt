@@ -36,11 +36,6 @@ lay cells [] = cells
 lay [] (c ∷ t) = []
 lay (x ∷ cells) (c ∷ t) = c ∷ lay cells t
 
-lay_none : (t : List ℕ) → lay [] t ≡ []
-unfolding lay
-lay_none [] = refl
-lay_none (c ∷ t) = refl
-
 laid_none : (cells t : List ℕ) → laid cells None t ≡ cells
 unfolding laid
 laid_none cells [] = refl

@@ -39,10 +39,7 @@ pub length_codes : (ps : List Placed) → length (code_points_of ps) ≡ length 
 length_codes [] = refl
 length_codes (p ∷ ps) = ap suc (length_codes ps)
 
--- nothing was passed over; so many were; one thing behind another
-pub left_all : (w w' : Ahead) → w' ≡ w → Left w (codes w) w'
-left_all w w' e = record { count = 0; passed = e; rest_is = ap codes e }
-
+-- so many were passed over; one thing behind another
 pub left_past : (k : ℕ) (w w' : Ahead) → w' ≡ past k w → Left w (drop k (codes w)) w'
 left_past k w w' e = record { count = k; passed = e; rest_is = ap codes e ∙ codes_past k w }
 
