@@ -4,14 +4,14 @@ use Rattle.std.specs.List.{All, copy_within}
 use Rattle.std.specs.Result.{result_transpose}
 use Rattle.std.proofs.Math.Seq.{take-append-add}
 use Rattle.std.proofs.lemmas.Bool.Decides.{nat_tests}
-use Rattle.std.proofs.lemmas.List.{drop_more, take_at, take-append-le, length-take, length-take-le, length-append, length-drop}
+use Rattle.std.proofs.lemmas.List.{drop_more, take_at, take-append-le, drop-append-le, length-take, length-take-le, length-append, length-drop}
 use Rattle.std.proofs.lemmas.List.Elements.{All-append, All-cons, All-drop, All-nil, All-same, All-take}
-use Rattle.std.proofs.lemmas.Slice.{between_from_start, between_is}
+use Rattle.std.proofs.lemmas.Slice.{between_is}
 use borrow.Rule.Slice.PartMut.{put_mid, post_of}
 use Rattle.refusal.specs.declared.fault.Fault.{Fault}
 use Rattle.lookahead.specs.declared.window.Window.{Window}
 use Rattle.lookahead.specs.Ahead.{Ahead, ending_in_sight}
-use Rattle.lookahead.specs.Windows.{FullOrTold, chunk_of, points_of}
+use Rattle.lookahead.specs.Windows.{InSightOrTold, chunk_of, points_of}
 use Rattle.stream.specs.declared.preprocess.Preprocess.{Preprocess}
 use Rattle.stream.specs.declared.source.Step.TheVariants.{End}
 use Rattle.stream.specs.Preprocess.{Placed, behind, replaced}
@@ -40,26 +40,35 @@ source_has_no_zero ahead p = behind_has_no_zero p.after_cr (ahead p.below)
 pub slice_has_no_zero : (xs : List Placed) (at end : ℕ) → NoZero (take end xs) → NoZero (slice_range xs at end)
 slice_has_no_zero xs at end some = All-same NotZero _ _ (between_is xs at end) (All-drop NotZero at (take end xs) some)
 
--- cells at..end moved to the front, and i cells written behind them: what rest began with, and rest' is left of it
-module _ (xs ys items written rest rest' : List Placed) (at end i n stop : ℕ) (h : at ≤ end) (k : end ≤ length xs) (e : ys ≡ copy_within xs at end 0) (l : i ≤ length items)
-    (s : stop ≡ end - at + i) (w : take i items ≡ written) (handed : written ++ rest' ≡ rest) where
-  filled_up : take stop (put_mid (end - at) n ys items) ≡ slice_range xs at end ++ written
-  filled_up =
+-- cells at..end moved to the front
+module _ (xs ys : List Placed) (at end : ℕ) (h : at ≤ end) (k : end ≤ length xs) (e : ys ≡ copy_within xs at end 0) where
+  pub moved_up : take (end - at) ys ≡ slice_range xs at end
+  moved_up =
       let left : end - at ≤ length (drop at xs) = omega (arith, length-drop at xs) in
       let size : length (slice_range xs at end) ≡ end - at = length-take-le (end - at) (drop at xs) left in
-      let moved : take (end - at) ys ≡ slice_range xs at end = rw e (take_at (slice_range xs at end) _ (end - at) size) in
-      let behind_it = take-append-add (slice_range xs at end) (items ++ post_of (end - at) n ys) i in
-      rw (s, moved) (rw size at behind_it ∙ ap (λ l. slice_range xs at end ++ l) (take-append-le i items (post_of (end - at) n ys) l ∙ w))
+      rw e (take_at (slice_range xs at end) _ (end - at) size)
 
-  pub still_ahead : slice_range (put_mid (end - at) n ys items) 0 stop ++ rest' ≡ slice_range xs at end ++ rest
+  pub moved_has_no_zero : NoZero (take end xs) → NoZero (take (end - at) ys)
+  moved_has_no_zero some = All-same NotZero _ _ moved_up (slice_has_no_zero xs at end some)
+
+-- behind cells at..end i cells are written: what rest began with, and rest' is left of it
+module _ (xs items written rest rest' : List Placed) (at end i n stop : ℕ) (h : at ≤ end) (k : end ≤ length xs) (l : i ≤ length items)
+    (s : stop ≡ end + i) (w : take i items ≡ written) (handed : written ++ rest' ≡ rest) where
+  grown : take stop (put_mid end n xs items) ≡ take end xs ++ written
+  grown =
+      let behind_it = take-append-add (take end xs) (items ++ post_of end n xs) i in
+      rw s (rw (length-take-le end xs k) at behind_it ∙ ap (λ l. take end xs ++ l) (take-append-le i items (post_of end n xs) l ∙ w))
+
+  pub still_ahead : slice_range (put_mid end n xs items) at stop ++ rest' ≡ slice_range xs at end ++ rest
   still_ahead =
-      rw (between_from_start (put_mid (end - at) n ys items) stop, filled_up, append_assoc) (ap (λ l. slice_range xs at end ++ l) handed)
+      let within : at ≤ length (take end xs) = omega (arith, length-take-le end xs k) in
+      rw (between_is (put_mid end n xs items) at stop, grown, drop-append-le at (take end xs) written within, sym (between_is xs at end), append_assoc) (ap (λ l. slice_range xs at end ++ l) handed)
 
-  pub still_no_zero : NoZero (take end xs) → NoZero rest → NoZero (take stop (put_mid (end - at) n ys items))
+  pub still_no_zero : NoZero (take end xs) → NoZero rest → NoZero (take stop (put_mid end n xs items))
   still_no_zero some more =
       let front : NoZero written = All-same NotZero _ _ (sym (take_at written rest' (length written) refl))
       (All-take NotZero (length written) _ (All-same NotZero _ _ handed more)) in
-      All-same NotZero _ _ filled_up (All-append NotZero _ _ (slice_has_no_zero xs at end some) front)
+      All-same NotZero _ _ grown (All-append NotZero _ _ some front)
 
 -- a source that told its ending had nothing ahead, and has nothing now
 pub stopped : (ps ps' : List Placed) (e e' : Ending) (f : Fault) → Hands ps e (Err f) ps' e' → (ps' ≡ ps) × (e' ≡ e)
@@ -92,7 +101,7 @@ unfolding ending_in_sight
 in_sight xs rest e h r = grind (arith, nat_tests, length-append)
 
 -- a refilled window with few code points has a source with none, which told its ending
-pub few_are_all : {S : Type 0} (ahead : S → List Placed) (ending : S → Ending) (w : Window S) (r : Result (Option ℕ) Fault) → FullOrTold ahead ending w r → length (chunk_of w) < 3
+pub few_are_all : {S : Type 0} (ahead : S → List Placed) (ending : S → Ending) (w : Window S) (r : Result (Option ℕ) Fault) → InSightOrTold ahead ending w r → length (chunk_of w) < 3
     → (points_of ahead w.source ≡ []) × (result_transpose r ≡ Some (ended (ending w.source.below)))
 few_are_all ahead ending w (Ok None) f h = absurd (omega (arith, f))
 few_are_all ahead ending w (Ok (Some p)) f h = (f.0, rw f.1 refl)

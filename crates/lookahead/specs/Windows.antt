@@ -1,11 +1,11 @@
 -- A window of code points in front of the preprocessing layer.
-use Rattle.std.specs.Prelude.{◌≡◌, ℕ, List, [], ◌++◌, length, Some, None, Ok, Err, Option, Result, slice_range}
+use Rattle.std.specs.Prelude.{◌≡◌, ◌≤◌, ℕ, List, [], ◌++◌, length, Some, None, Ok, Err, Option, Result, slice_range}
 use Rattle.refusal.specs.declared.fault.Fault.{Fault}
 use Rattle.stream.specs.Preprocess.{Placed, behind}
 use Rattle.stream.specs.Sources.{Ending}
 use Rattle.stream.specs.Sources.Ending.{ends, stops}
 use Rattle.stream.specs.declared.preprocess.Preprocess.{Preprocess}
-use Rattle.lookahead.specs.declared.window.TheConstants.{SIZE}
+use Rattle.lookahead.specs.declared.window.TheConstants.{SIGHT}
 use Rattle.lookahead.specs.declared.window.Window.{Window}
 use Rattle.lookahead.specs.Ahead.{Ahead}
 
@@ -21,8 +21,8 @@ chunk_of w = slice_range w.points w.at w.end
 abbrev pub ahead_of : {S : Type 0} → (S → List Placed) → (S → Ending) → Window S → Ahead
 ahead_of ahead ending w = record { list = chunk_of w ++ points_of ahead w.source; ending = ending w.source.below }
 
--- the window is full; or its source has nothing left and told its ending
-abbrev pub FullOrTold : {S : Type 0} → (S → List Placed) → (S → Ending) → Window S → Result (Option ℕ) Fault → Type 0
-FullOrTold ahead ending w (Ok None) = length (chunk_of w) ≡ SIZE
-FullOrTold ahead ending w (Ok (Some p)) = (points_of ahead w.source ≡ []) × (ending w.source.below ≡ ends p)
-FullOrTold ahead ending w (Err f) = (points_of ahead w.source ≡ []) × (ending w.source.below ≡ stops f)
+-- three are in sight; or its source has nothing left and told its ending
+abbrev pub InSightOrTold : {S : Type 0} → (S → List Placed) → (S → Ending) → Window S → Result (Option ℕ) Fault → Type 0
+InSightOrTold ahead ending w (Ok None) = SIGHT ≤ length (chunk_of w)
+InSightOrTold ahead ending w (Ok (Some p)) = (points_of ahead w.source ≡ []) × (ending w.source.below ≡ ends p)
+InSightOrTold ahead ending w (Err f) = (points_of ahead w.source ≡ []) × (ending w.source.below ≡ stops f)

@@ -8,7 +8,10 @@ use stream::Preprocess;
 mod chunk;
 
 /// How many code points a window has room for. The reader allocates nothing, so they lie in an array.
-const SIZE: usize = 64;
+const SIZE: usize = 32;
+
+/// How many code points are in sight. The source is asked for no more: its writer sees how far it is read.
+const SIGHT: usize = 3;
 
 /// A source, preprocessed, with some code points in front of it: those of index `at` up to `end`, each with its place.
 #[derive(Drop)]

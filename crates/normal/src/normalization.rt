@@ -1,5 +1,6 @@
 //! From a source to a sink, in the normal form.
 ghost use Rattle.normal.specs.Normalizing.{CanRefuse, Normalizes, Transfers};
+ghost use Rattle.reader.specs.NextToken.{model_of};
 ghost use Rattle.std.specs.Prelude.{◌≡◌, false, ◌&&◌, IfErr};
 ghost use Rattle.syntax.specs.Kinds.{same_kind};
 ghost use Rattle.syntax.specs.declared.kind.Kind.TheVariants.{Whitespace};
@@ -12,7 +13,7 @@ use writer::{Counts, Writer};
 
 /// What normalize answered, and the reader and the writer that it left.
 #[derive(Drop)]
-pub struct Normalized<P: Source, S> {
+pub struct Normalized<P, S> {
     pub reader: Reader<P>,
     pub writer: Writer<S>,
     pub answer: Result<Counts, Fault>,
@@ -21,7 +22,7 @@ pub struct Normalized<P: Source, S> {
 /// Reads the tokens of a source into cells, leaves out whitespace directly after whitespace, and puts all others into
 /// a new writer over the sink. Answers the numbers of accepted tokens and of comments, or the first refusal.
 pub fn normalize<P: Source, S: Sink>(source: P, sink: S, cells: &mut [u32]) -> Normalized<P, S>
-    ensures normalizes { Normalizes S.Sink.held S.Sink.takes (P.Source.ahead source) (P.Source.ending source) sink cells.old result.answer result.reader cells.new result.writer }
+    ensures normalizes { Normalizes S.Sink.held S.Sink.takes (P.Source.ahead source) (P.Source.ending source) sink cells.old result.answer (model_of P.Source.ahead P.Source.ending result.reader) cells.new result.writer }
     ensures refusals { IfErr result.answer (λ f. CanRefuse (P.Source.ending source) f) }
 {
     let mut reader = Reader::new(source);
@@ -41,7 +42,7 @@ fn transfer<P: Source, S: Sink>(
     writer: &mut Writer<S>,
     cells: &mut [u32],
 ) -> Result<Counts, Fault>
-    ensures { Transfers S.Sink.held S.Sink.takes false reader.old cells.old writer.old result reader.new cells.new writer.new }
+    ensures { Transfers S.Sink.held S.Sink.takes false (model_of P.Source.ahead P.Source.ending reader.old) cells.old writer.old result (model_of P.Source.ahead P.Source.ending reader.new) cells.new writer.new }
 {
     let mut after_whitespace = false;
     while let Next::Token(token) = reader.next_token(cells)? {

@@ -10,14 +10,19 @@ use Rattle.syntax.specs.Reading.{Next as Reached, next}
 use Rattle.syntax.specs.Reading.Next.{end, token}
 use Rattle.syntax.specs.Extents.{before, taken, collected}
 use Rattle.lookahead.specs.Ahead.{Ahead, codes, past}
+use Rattle.lookahead.specs.Windows.{ahead_of}
 use Rattle.reader.specs.declared.answer.Located.{Located}
 use Rattle.reader.specs.declared.answer.Next.{Next}
 use Rattle.reader.specs.declared.answer.Next.TheVariants.{Token, End}
+use Rattle.reader.specs.declared.reader.Reader.{Reader}
 
 -- a reader: what is ahead of it, and how it ended, none while it goes on
 pub record Model : Type 0 where
   pub ahead : Ahead
   pub told : Option (Result ℕ Fault)
+
+abbrev pub model_of : {S : Type 0} → (S → List Placed) → (S → Ending) → Reader S → Model
+model_of ahead ending r = record { ahead = ahead_of ahead ending r.window; told = r.told }
 
 -- a new reader over a source
 abbrev pub begun : List Placed → Ending → Model

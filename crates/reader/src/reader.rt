@@ -1,35 +1,26 @@
 //! The reader.
-ghost use Rattle.reader.specs.NextToken.{NextToken, begun};
+ghost use Rattle.reader.specs.NextToken.{NextToken, begun, model_of};
 ghost use Rattle.std.specs.Prelude.{◌≡◌};
 
 use crate::answer::Next;
 use crate::answering::answer_next;
 use lookahead::Window;
 use refusal::Fault;
-use std::marker::Model;
 use stream::Source;
 
 /// Reads the tokens of a source, one at a time. Once it has told the end or a refusal, it repeats that for ever.
+// Clauses see it by `model_of` and by no `impl Model`, which would have to ask `S: Source` of the struct and of whoever
+// names it.
 #[derive(Drop)]
-pub struct Reader<S: Source> {
+pub struct Reader<S> {
     window: Window<S>,
     told: Option<Result<usize, Fault>>,
-}
-
-/// A reader is seen as what is ahead of it, and what it told and repeats.
-impl<S: Source> Model for Reader<S> {
-    ghost use Rattle.lookahead.specs.Windows.{ahead_of};
-    ghost use Rattle.reader.specs.NextToken.{Model as Seen};
-
-    ghost Value = { Seen };
-
-    ghost view = { λ r. record { ahead = ahead_of S.Source.ahead S.Source.ending r.window; told = r.told } };
 }
 
 impl<S: Source> Reader<S> {
     /// A reader over a source, which it preprocesses.
     pub fn new(source: S) -> Reader<S>
-        ensures { result ≡ begun (S.Source.ahead source) (S.Source.ending source) }
+        ensures { model_of S.Source.ahead S.Source.ending result ≡ begun (S.Source.ahead source) (S.Source.ending source) }
     {
         Reader {
             window: Window::new(source),
@@ -39,7 +30,7 @@ impl<S: Source> Reader<S> {
 
     /// The next token, whose text and unit stand in the cells from the first on; or the end; or a refusal.
     pub fn next_token(&mut self, cells: &mut [u32]) -> Result<Next, Fault>
-        ensures { NextToken self.old cells.old result cells.new self.new }
+        ensures { NextToken (model_of S.Source.ahead S.Source.ending self.old) cells.old result cells.new (model_of S.Source.ahead S.Source.ending self.new) }
     {
         if let Some(told) = self.told {
             return Ok(Next::End(told?));

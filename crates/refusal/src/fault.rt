@@ -16,7 +16,7 @@ pub enum Layer {
 }
 
 /// A refusal, with its place. The comments say each case's number.
-#[derive(Clone, Copy, PartialEq, Eq, Debug)]
+#[derive(Clone, Copy, PartialEq, Eq)]
 pub enum Fault {
     /// 1: a number above U+10FFFF in an array of code points, at its index.
     OutOfRange(usize),
@@ -144,6 +144,15 @@ impl fmt::Display for Fault {
         let layer = self.layer();
         let place = self.place();
         write!(f, "fault {number} {layer} {place}")
+    }
+}
+
+/// For logs, the same text: by hand, since the derive would leave number and layer out.
+impl fmt::Debug for Fault {
+    ghost debug_output = { λ x. Some (fault_shown x) };
+
+    fn fmt<W: fmt::Write>(&self, f: &mut fmt::Formatter<W>) -> fmt::Result {
+        write!(f, "{self}")
     }
 }
 

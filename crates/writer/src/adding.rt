@@ -23,20 +23,23 @@ pub(crate) struct Admitted<'a> {
     ghost room: { state.accepted + 1 + blocks.depth ≤ 1000000 },
 }
 
+// Inlined, as all that a call of the writer goes through: state, token and blocks would be copied at each step.
 impl Admitted<'_> {
     ghost use Rattle.writer.specs.States.{Advanced};
     ghost use Rattle.writer.specs.Writes.{bytes_added};
 
     /// Whether a comment is due before the token.
-    fn owes_comment(self) -> bool
-        ensures { result ≡ apart self.entry.state.left (right_of (value_of self.entry.token)) }
+    #[inline(always)]
+    fn owes_comment(&self) -> bool
+        ensures { result ≡ apart self.now.state.left (right_of (value_of self.now.token)) }
     {
         is_apart(self.state.left, right_of(self.token))
     }
 
     /// Writes the comment if it is due, and then the token.
-    pub(crate) fn emit<S: Sink>(self, sink: &mut S) -> Result<(), Fault>
-        ensures { Emits S.Sink.held S.Sink.takes sink.old (bytes_added self.entry.state (value_of self.entry.token)) result sink.new }
+    #[inline(always)]
+    pub(crate) fn emit<S: Sink>(&self, sink: &mut S) -> Result<(), Fault>
+        ensures { Emits S.Sink.held S.Sink.takes sink.old (bytes_added self.now.state (value_of self.now.token)) result sink.new }
     {
         if self.owes_comment() {
             emit(sink, b"/**/")?;
@@ -45,6 +48,7 @@ impl Admitted<'_> {
     }
 
     /// The state behind the token, which went out whole.
+    #[inline(always)]
     pub(crate) fn advanced(self) -> State
         ensures { Advanced self.entry.state (value_of self.entry.token) self.entry.blocks result }
     {

@@ -25,6 +25,7 @@ use syntax::waiting::Waiting;
 /// Accepted tokens and open blocks together.
 const ROOM: usize = 1_000_000;
 
+// What each call asks is inlined: a state goes by value, and would be copied at each step.
 impl State {
     pub(crate) fn new() -> State
         ensures { Fresh result }
@@ -41,12 +42,14 @@ impl State {
     }
 
     /// A function or bracket while a block is open.
+    #[inline(always)]
     fn is_in_block(self, kind: Kind) -> bool
         ensures { result ≡ (nat_lt 0 self.blocks.depth && is_block_sign kind) }
     {
         self.blocks.depth() > 0 && is_block_sign(kind)
     }
 
+    #[inline(always)]
     fn is_out_of_turn(self, token: Token<'_>) -> bool
         ensures { result ≡ not (is_in_turn self.waiting (value_of token.entry)) }
     {
@@ -61,6 +64,7 @@ impl State {
     }
 
     /// Whitespace directly after whitespace.
+    #[inline(always)]
     fn repeats_whitespace(self, token: Token<'_>) -> bool
         ensures { result ≡ (is_whitespace_left self.left && is_kind Whitespace (value_of token.entry)) }
     {
@@ -68,6 +72,7 @@ impl State {
     }
 
     /// The refusals of every call, which stand first: after finish, and once the sink refused.
+    #[inline(always)]
     fn admit_any(self) -> Result<(), Fault>
         ensures { result ≡ first_of (refusals_of_all self []) }
     {
@@ -81,6 +86,7 @@ impl State {
     }
 
     /// The refusals of put, in order.
+    #[inline(always)]
     pub(crate) fn admit_put(self, token: Token<'_>) -> Result<Admitted<'_>, Fault>
         ensures { Admits self (put_refusals self (value_of token.entry)) (value_of token.entry) (λ b. b ≡ self.blocks) result }
     {
@@ -112,6 +118,7 @@ impl State {
     }
 
     /// The refusals of open, in order.
+    #[inline(always)]
     pub(crate) fn admit_open(self, token: Token<'_>) -> Result<Admitted<'_>, Fault>
         ensures { Admits self (open_refusals self (value_of token.entry)) (value_of token.entry) (Opened self.blocks token.entry.kind) result }
     {
@@ -137,6 +144,7 @@ impl State {
     }
 
     /// The refusals of close, in order. The token is the one that closes the slip's block.
+    #[inline(always)]
     pub(crate) fn admit_close(self, slip: &Slip) -> Result<Admitted<'static>, Fault>
         ensures { Admits self (close_refusals self slip.now.depth slip.now.kind) (mirror slip.now.kind) (Closed self.blocks) result }
     {
@@ -172,6 +180,7 @@ impl State {
     }
 
     /// The state after the sink refused a byte.
+    #[inline(always)]
     pub(crate) fn stopped(mut self, fault: Fault) -> State
         ensures { Stopped self (place_of fault) result }
     {

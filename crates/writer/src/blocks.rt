@@ -30,12 +30,14 @@ impl Blocks {
         }
     }
 
+    #[inline(always)]
     pub(crate) fn depth(self) -> usize
         ensures { result ≡ self.depth }
     {
         self.depth
     }
 
+    #[inline(always)]
     pub(crate) fn is_full(self) -> bool
         ensures { result ≡ nat_le 32 self.depth }
     {
@@ -43,6 +45,7 @@ impl Blocks {
     }
 
     /// The kind of the innermost block, if the slip has its depth and the number of its kind.
+    #[inline(always)]
     pub(crate) fn innermost(self, slip: &Slip) -> Option<Kind>
         ensures found { is_some result ≡ is_innermost self slip.now.depth slip.now.kind }
         ensures kind { IfSome result (λ k. slip.now.kind ≡ number_of k) }
@@ -57,6 +60,7 @@ impl Blocks {
     }
 
     /// With one block more.
+    #[inline(always)]
     pub(crate) fn opened(mut self, kind: Kind) -> Blocks
         requires { self.depth < 32 }
         ensures { Opened self kind result }
@@ -67,6 +71,7 @@ impl Blocks {
     }
 
     /// Without the innermost block.
+    #[inline(always)]
     pub(crate) fn closed(mut self) -> Blocks
         requires { 0 < self.depth }
         ensures { Closed self result }

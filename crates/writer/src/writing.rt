@@ -60,6 +60,7 @@ impl<S: Sink> Writer<S> {
     }
 
     /// Writes the comment if due and the admitted token, over the state that admitted it.
+    #[inline(always)]
     fn add(&mut self, admitted: Admitted<'_>) -> Result<(), Fault>
         ensures { Adds S.Sink.held S.Sink.takes (record { sink = self.old.sink; state = admitted.entry.state }) (value_of admitted.entry.token) admitted.entry.blocks result self.new }
     {

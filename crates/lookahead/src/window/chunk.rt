@@ -1,11 +1,12 @@
 //! How the window is filled, shown and passed over.
 ghost use Rattle.std.specs.List.{All};
-ghost use Rattle.std.specs.Prelude.{◌≡◌, ◌<◌, ◌∷◌, []};
+ghost use Rattle.lookahead.specs.declared.window.TheConstants.{SIGHT, SIZE};
+ghost use Rattle.std.specs.Prelude.{◌≡◌, ◌+◌, ◌<◌, ◌≤◌, ◌∷◌, [], length};
 ghost use Rattle.stream.specs.Preprocess.{preprocessed};
 ghost use Rattle.lookahead.specs.Ahead.{peeked};
-ghost use Rattle.lookahead.specs.Windows.{FullOrTold, ahead_of, chunk_of};
+ghost use Rattle.lookahead.specs.Windows.{InSightOrTold, ahead_of, chunk_of};
 
-use super::{SIZE, Window};
+use super::{SIGHT, SIZE, Window};
 use crate::ahead::{Lookahead, Peek};
 use codepoint::starts::EOF;
 use refusal::Fault;
@@ -29,22 +30,45 @@ impl<S: Source> Window<S> {
         }
     }
 
-    /// Moves what is left to the front, and takes code points from the source until the window is full or the source
-    /// tells its ending, which it answers.
+    /// Moves what is left to the front, where the window's end has no room for three in sight.
+    #[inline(always)]
+    fn make_room(&mut self)
+        ensures same { ahead_of S.Source.ahead S.Source.ending self.new ≡ ahead_of S.Source.ahead S.Source.ending self.old }
+        ensures room { self.new.at + SIGHT ≤ SIZE }
+        ensures size { length self.new.points ≡ SIZE }
+    {
+        if self.at + SIGHT > SIZE {
+            self.move_to_front();
+        }
+    }
+
+    /// Moves what is left to the front, once in some thirty code points.
+    #[cold]
+    #[inline(never)]
+    fn move_to_front(&mut self)
+        ensures same { ahead_of S.Source.ahead S.Source.ending self.new ≡ ahead_of S.Source.ahead S.Source.ending self.old }
+        ensures front { self.new.at ≡ 0 }
+        ensures size { length self.new.points ≡ SIZE }
+    {
+        self.points.copy_within(self.at..self.end, 0);
+        self.end -= self.at;
+        self.at = 0;
+    }
+
+    /// Takes code points from the source until three are in sight or the source tells its ending, which it answers.
     fn refill(&mut self) -> Result<Option<usize>, Fault>
         ensures same { ahead_of S.Source.ahead S.Source.ending self.new ≡ ahead_of S.Source.ahead S.Source.ending self.old }
-        ensures now_so { FullOrTold S.Source.ahead S.Source.ending self.new result }
+        ensures now_so { InSightOrTold S.Source.ahead S.Source.ending self.new result }
     {
+        self.make_room();
         let Window {
             source,
             points,
             at,
             end,
         } = self;
-        points.copy_within(*at..*end, 0);
-        *end -= *at;
-        *at = 0;
-        for cell in &mut points[*end..] {
+        let sight = (*at + SIGHT).max(*end);
+        for cell in &mut points[*end..sight] {
             match source.next()? {
                 Step::Point(point) => *cell = point,
                 Step::End(place) => return Ok(Some(place)),
@@ -80,11 +104,9 @@ impl<S: Source> Lookahead for Window<S> {
     ghost rest = { ahead_of S.Source.ahead S.Source.ending };
 
     fn peek(&mut self) -> Peek {
-        // three are there but once in some sixty calls
-        if let [a, b, c, ..] = *self.chunk() {
-            return peek_of(a, b, c);
+        if self.chunk().len() < SIGHT {
+            let _ = self.refill();
         }
-        let _ = self.refill();
         match *self.chunk() {
             [a, b, c, ..] => peek_of(a, b, c),
             [a, b] => peek_of(a, b, PAST),
